@@ -1,0 +1,4 @@
+pub mod Acts
+pub mod Order
+pub mod Language
+pub mod Theorems

@@ -1,0 +1,66 @@
+ghost use mathlib.Core.Path.{_≡_};
+ghost use Rattle.fault.specs.Numbers.{numberOf};
+
+// What spoils a file as bytes.
+#[derive(Clone, Copy, PartialEq, Eq, Debug)]
+pub enum FileCause {
+    // A command or its operands are due, and the file has ended.
+    Ends,
+    // The command is not allowed here.
+    NotAllowed,
+    // An operand is out of range.
+    OutOfRange,
+    // A line has 32 acts already.
+    LineFull,
+    // Bytes stand behind the last command.
+    GoesOn,
+}
+
+// What keeps lines from being a chart.
+#[derive(Clone, Copy, PartialEq, Eq, Debug)]
+pub enum ChartCause {
+    // A message is sent more or less often than it is received.
+    NotPaired,
+    // No playing order holds all acts.
+    NotPlayable,
+}
+
+// What keeps a call from being granted.
+#[derive(Clone, Copy, PartialEq, Eq, Debug)]
+pub enum BookCause {
+    // The output is too short.
+    OutputShort,
+}
+
+// The layer that found a fault, with that layer's own cause.
+#[derive(Clone, Copy, PartialEq, Eq, Debug)]
+pub enum Layer {
+    File(FileCause),
+    Chart(ChartCause),
+    Book(BookCause),
+}
+
+// A refusal: the layer that found it, and the place that it found it at.
+#[derive(Clone, Copy, PartialEq, Eq, Debug)]
+pub struct Fault {
+    pub layer: Layer,
+    pub place: u64,
+}
+
+impl Fault {
+    // The number by which the refusal is known.
+    pub fn number(self) -> u8
+        ensures { λ r. ⌜ r ≡ numberOf (self .layer) ⌝ }
+    {
+        match self.layer {
+            Layer::File(FileCause::Ends) => 1,
+            Layer::File(FileCause::NotAllowed) => 2,
+            Layer::File(FileCause::OutOfRange) => 3,
+            Layer::File(FileCause::LineFull) => 4,
+            Layer::File(FileCause::GoesOn) => 5,
+            Layer::Chart(ChartCause::NotPaired) => 6,
+            Layer::Chart(ChartCause::NotPlayable) => 7,
+            Layer::Book(BookCause::OutputShort) => 17,
+        }
+    }
+}

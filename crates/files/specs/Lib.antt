@@ -1,0 +1,5 @@
+pub mod Bytes
+pub mod Rules
+pub mod Answers
+pub mod Reading
+pub mod Theorems

@@ -1,0 +1,1 @@
+// The chart file as a definition, and what holds of files and charts.

@@ -1,0 +1,4 @@
+pub mod Sheets
+pub mod Tallies
+pub mod Pairings
+pub mod Plays

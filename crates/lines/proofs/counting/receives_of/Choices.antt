@@ -1,0 +1,10 @@
+use mathlib.Core.Path.{_≡_}
+use Prim.Native.Nat.{_≤_}
+use lib.ListN.{take}
+use Rattle.acts.specs.Acts.{receives}
+use Rattle.lines.proofs.counting.receives_of.Given as given
+
+abbrev pub Inv-loop-act : given.InvT-loop-act
+Inv-loop-act l =
+    (l .count ≡ receives (l .message .sender) (l .message .receiver) (l .message .name) (take (l .act-index) (l .acts)))
+    × (l .count ≤ l .act-index)

@@ -1,0 +1,4 @@
+pub mod Playing
+pub mod Pushed
+pub mod Charts
+pub mod Of

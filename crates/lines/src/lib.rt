@@ -1,0 +1,3 @@
+pub mod counting;
+pub mod party_line;
+pub mod sheet;
