@@ -6,10 +6,11 @@ use Prim.Native.Nat.{ℕ, _+_, _<_, _≤_}
 use native.Mathlib.Omega.{arith}
 use lib.Dec.{ltb}
 use lib.ListN.{length, length-append, getD, set, take}
-use Rattle.std.proofs.shelf.Lists.{length-map, length-take-le, getD-take, getD-map, getD-past, take-more, take-more-set, map-set}
+use Rattle.std.proofs.shelf.Lists.{length-map, length-take-le, getD-take, getD-map, getD-past, take-more, take-more-set, map-set, take-all}
 use Rattle.std.proofs.shelf.Tests.{lt-ltb}
 use Rattle.acts.specs.declared.Act.{Act}
 use Rattle.acts.specs.Acts.{Lines, line}
+use Rattle.acts.specs.Language.{size}
 use Rattle.lines.specs.Charts.{newest, lengthened}
 use Rattle.lines.specs.Pushed.{Pushed}
 
@@ -74,3 +75,17 @@ grown f items j k x y a b h e is p =
           ∙ either b c (f x) a
           ∙ ap (λ (d : Lines). cond b (lengthened d a) d) (sym was);
     }
+
+size-push : (c : Lines) (l : List Act) → size (c ++ (l ∷ [])) ≡ size c + length l
+size-push [] l = omega arith
+size-push (k ∷ c) l = let e = size-push c l in omega arith
+
+-- the acts of one line more
+pub size-more : (c : Lines) (p n : ℕ) (l : List Act) → p < length c → l ≡ line c p → n ≡ size (take p c) → n + length l ≡ size (take (p + 1) c)
+size-more c p n l h e k =
+    let f : size (take (p + 1) c) ≡ size (take p c) + length (line c p) = ap size (take-more c p [] h) ∙ size-push (take p c) (line c p) in
+    let g = ap length e in
+    omega arith
+
+pub size-all : (c : Lines) (p n : ℕ) → length c ≤ p → n ≡ size (take p c) → n ≡ size c
+size-all c p n h e = e ∙ ap size (take-all p c h)

@@ -6,6 +6,7 @@ ghost use lib.Dec.{ltb, leb, eqb};
 ghost use lib.ListN.{length, getD, replicate};
 ghost use Rattle.std.specs.Vec.{made};
 ghost use Rattle.acts.specs.Acts.{line};
+ghost use Rattle.acts.specs.Language.{size};
 ghost use Rattle.lines.specs.Charts.{newest, lengthened};
 ghost use Rattle.lines.specs.Of.{linesOf};
 use crate::party_line::PartyLine;
@@ -106,5 +107,16 @@ impl Sheet {
             return false;
         }
         self.lines[usize::from(self.begun - 1)].push(act)
+    }
+
+    // How many acts all lines hold.
+    pub fn size(&self) -> usize
+        ensures { λ r. ⌜ r ≡ size (linesOf (now (self .entry))) ⌝ }
+    {
+        let mut sum = 0;
+        for party in 0..self.begun {
+            sum += self.line(party).len();
+        }
+        sum
     }
 }
