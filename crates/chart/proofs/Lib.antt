@@ -1,2 +1,4 @@
 pub mod Rows
 pub mod Reached
+pub mod Kept
+pub mod Put

@@ -1,4 +1,4 @@
-
+pub mod chart;
 mod cursor;
 mod reader;
-
+mod writer;

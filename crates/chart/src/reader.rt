@@ -9,9 +9,9 @@ ghost use Rattle.files.specs.Bytes.{fileOf, letterByte};
 ghost use Rattle.fault.specs.declared.FileCause.the-variants.{GoesOn};
 ghost use Rattle.files.specs.Answers.{Bad-file, Refused, fileFault};
 ghost use Rattle.chart.specs.Steps.{Taken, stageOf};
+use crate::cursor::Cursor;
 use acts::Act;
 use acts::Letter;
-use crate::cursor::Cursor;
 use fault::ChartCause;
 use fault::Fault;
 use fault::FileCause;
@@ -82,7 +82,12 @@ fn act(sheet: &mut Sheet, cursor: &mut Cursor, letter: Letter) -> Result<bool, F
         return Err(cursor.fault(FileCause::OutOfRange, 2));
     }
     let (peer, name) = (*peer, *name);
-    if !sheet.lengthen(Act { party, letter, peer, name }) {
+    if !sheet.lengthen(Act {
+        party,
+        letter,
+        peer,
+        name,
+    }) {
         return Err(cursor.fault(FileCause::LineFull, 0));
     }
     cursor.place += 3;

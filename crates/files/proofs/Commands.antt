@@ -7,7 +7,8 @@ use native.Mathlib.Omega.{arith}
 use lib.Dec.{eqb, ltb, leb}
 use Rattle.std.specs.declared.option.Option.{Option}
 use Rattle.std.specs.declared.option.Option.the-variants.{Some, None}
-use Rattle.std.proofs.shelf.Tests.{eqb-true, eqb-false, ltb-true, ltb-false, leb-true, eq-eqb, ne-eqb, lt-ltb, le-ltb, le-leb, and-parts, and-from, or-cases, or-left, not-true, not-false, not-from-true, not-from-false}
+use Rattle.std.proofs.shelf.Tests.{eqb-true, eqb-false, ltb-true, ltb-false, leb-true, eq-eqb, ne-eqb, lt-ltb, le-ltb, le-leb, and-parts}
+use Rattle.std.proofs.shelf.Tests.{and-from, or-cases, or-left, not-true, not-false, not-from-true, not-from-false}
 use Rattle.fault.specs.declared.Fault.{Fault}
 use Rattle.files.specs.Rules.{isAct, allowed, operands, firstFits, secondFits, first, rows}
 

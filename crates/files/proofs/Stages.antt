@@ -170,7 +170,8 @@ on-front s d command more h e =
     ∙ front-more (s .parties) (s .lines) d command more e
     ∙ ap (λ (b : List ℕ). b ++ (command ++ more)) (sym (front-from s h))
 
-begins-grew : (s : Stage) (x left : ℕ) (more : List ℕ) → Sound s → Begins (s .parties) (length (s .lines)) x left → Grew s (76 ∷ x ∷ more)
+begins-grew : (s : Stage) (x left : ℕ) (more : List ℕ) → Sound s → Begins (s .parties) (length (s .lines)) x left
+    → Grew s (76 ∷ x ∷ more)
 begins-grew s x left more d h =
     let n : 0 < s .parties = omega arith in
     record {
@@ -257,7 +258,8 @@ closed-by s rest e (sends f h) = absurd (omega arith)
 closed-by s rest e (receives f h) = absurd (omega arith)
 closed-by s rest e (ends f h) = h
 
-ends-closed : (s : Stage) (rest : List ℕ) → Sound s → getD rest 0 0 ≡ 90 → Ends (s .parties) (length (s .lines)) (length rest) → Closed s rest
+ends-closed : (s : Stage) (rest : List ℕ) → Sound s → getD rest 0 0 ≡ 90 → Ends (s .parties) (length (s .lines)) (length rest)
+    → Closed s rest
 ends-closed s [] d e h = absurd (let w = h .whole in omega arith)
 ends-closed s (b ∷ more) d e h =
     let c : Lines = s .lines in

@@ -1,0 +1,50 @@
+ghost use mathlib.Core.Path.{_≡_};
+ghost use mathlib.Core.List.{List, [], _∷_};
+ghost use lib.ListN.{length};
+ghost use Rattle.std.specs.Vec.{made};
+ghost use Rattle.acts.specs.Acts.{line};
+ghost use Rattle.acts.specs.Language.{size};
+ghost use Rattle.lines.specs.Charts.{Is-chart};
+ghost use Rattle.chart.specs.Of.{linesIn};
+use crate::chart::Chart;
+use acts::Act;
+use lines::sheet::Sheet;
+use std::alloc::AllocError;
+use std::alloc::Global;
+
+impl Chart {
+    // A chart place: two parties and no act, with memory for the largest chart.
+    pub fn new(heap: Global) -> Result<Chart, AllocError>
+        ensures { λ r. ⌜ made r (λ c. linesIn c ≡ [] ∷ [] ∷ []) ⌝ }
+    {
+        let sheet = Sheet::new(heap)?;
+        let spare = Sheet::new(heap)?;
+        Ok(Chart { sheet, spare })
+    }
+
+    // How many parties the chart has.
+    pub fn parties(&self) -> u8
+        ensures { λ r. ⌜ r ≡ length (linesIn (now (self .entry))) ⌝ }
+    {
+        self.sheet.begun()
+    }
+
+    // The acts of a party's line; none where the chart has no such party.
+    pub fn line(&self, party: u8) -> &[Act]
+        ensures { λ r. ⌜ now r ≡ line (linesIn (now (self .entry))) party ⌝ }
+    {
+        self.sheet.line(party)
+    }
+
+    // How many acts the chart has.
+    pub fn size(&self) -> usize
+        ensures { λ r. ⌜ r ≡ size (linesIn (now (self .entry))) ⌝ }
+    {
+        self.sheet.size()
+    }
+
+    // What every chart keeps.
+    pub fn is_chart(&self)
+        ensures { λ _. ⌜ Is-chart (linesIn (now (self .entry))) ⌝ }
+    {}
+}
