@@ -1,20 +1,21 @@
 -- What a chart's type keeps, got out of its truncations.
-use mathlib.Core.Path.{_≡_, refl, sym, _∙_, ap, subst, IsProp}
+use mathlib.Core.Path.{_≡_, refl, sym, _∙_, ap, subst}
 use mathlib.Core.Logic.{∥∥₁-elim, inl, inr}
 use mathlib.Core.HLevel.{⊥-prop, Unit-prop, ¬-prop, Π-prop, ×-prop}
 use mathlib.Core.List.{List, [], _∷_}
 use mathlib.Core.Bool.{Bool, true, false}
 use Prim.Native.Nat.{ℕ, zero, suc, _+_, _*_, _<_, _≤_}
 use native.Mathlib.Bridge.{le-prop}
-use native.Mathlib.Decide.{ℕ-set}
+use native.Mathlib.Nat.{ℕ-set}
 use native.Mathlib.Omega.{arith}
+use lib.Dec.{lit≤}
 use lib.ListN.{length}
 use Rattle.std.specs.shelf.Lists.{All}
 use Rattle.std.proofs.shelf.Tests.{cases-lt}
 use Rattle.acts.specs.declared.Act.{Act}
-use Rattle.acts.specs.Acts.{In-range, Lines, line}
+use Rattle.acts.specs.Acts.{In-range, Lines, line, sends, receives}
 use Rattle.acts.specs.Language.{plays, run, size}
-use Rattle.acts.proofs.Playing.{plays-diamond}
+use Rattle.acts.proofs.Playing.{plays-diamond, plays-causal}
 use Rattle.acts.proofs.Running.{run-longest}
 use Rattle.lines.specs.Charts.{Fine, Begun, Lined, Paired, Playable, Longest-order, Is-chart}
 use Rattle.files.proofs.Lined.{begun-own, longest-orders, longest-below, playable-from, not-playable-from}
@@ -74,3 +75,26 @@ size-bound c t =
     let e = size-by c (λ p. L .fine p .short) in
     let f = L .high in
     (omega arith, f)
+
+-- no line past the two has an act
+bare-line : (p : ℕ) → line ([] ∷ [] ∷ []) p ≡ []
+bare-line zero = refl
+bare-line (suc zero) = refl
+bare-line (suc (suc p)) = refl
+
+-- two parties and no act are a chart
+pub bare : Is-chart ([] ∷ [] ∷ [])
+bare = record {
+  lined = record {
+    low = lit≤ tt;
+    high = lit≤ tt;
+    few = lit≤ tt;
+    fine = λ p. subst (Fine 2 p) (sym (bare-line p)) (record { short = lit≤ tt; acts = tt });
+  };
+  paired = λ s r m. ap (sends s r m) (bare-line s) ∙ sym (ap (receives s r m) (bare-line r));
+  playable = record {
+    order = [];
+    playing = record { causal = plays-causal [] refl; along = λ p. (line ([] ∷ [] ∷ []) p, refl) };
+    all = λ p. sym (bare-line p);
+  };
+}

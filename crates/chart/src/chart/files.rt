@@ -21,7 +21,7 @@ impl Chart {
     // Reads a chart file into this place. A faulty file leaves the place as it was and is answered
     // by the first thing wrong.
     pub fn read(&mut self, file: &[u8]) -> Result<(), Fault>
-        ensures answer { λ r. ⌜ Cases r (λ _. Chart-file (now (file .entry)) (linesIn (now (self .exit)))) (λ f. Refused (now (file .entry)) f × (linesIn (now (self .exit)) ≡ linesIn (now (self .entry)))) ⌝ }
+        ensures { λ r. ⌜ Cases r (λ _. Chart-file (now (file .entry)) (linesIn (now (self .exit)))) (λ f. Refused (now (file .entry)) f × (linesIn (now (self .exit)) ≡ linesIn (now (self .entry)))) ⌝ }
     {
         fill(&mut self.spare, file)?;
         check(&self.spare)?;
