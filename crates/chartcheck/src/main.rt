@@ -1,0 +1,56 @@
+// Reads one chart file from standard input and says what it holds, or what spoils it.
+ghost use Prim.Native.Nat.{_≤_};
+ghost use lib.ListN.{length};
+ghost use Rattle.std.specs.Vec.{made};
+use chart::chart::Chart;
+use std::error::AnyError;
+use std::io;
+use std::io::Read;
+
+mod report;
+
+// No chart file has more than 591 bytes, and the first 593 bytes of any input tell its answer.
+const LOOKED_AT: usize = 1024;
+
+// The input's front, up to as many bytes as the buffer takes.
+fn front(rt: &LibcRuntime, buffer: &mut [u8]) -> io::Result<usize>
+    ensures { λ r. ⌜ made r (λ n. n ≤ length (now (buffer .entry))) ⌝ }
+{
+    let mut input = rt.stdin();
+    let mut length = 0;
+    for _ in 0..buffer.len() {
+        let more = input.read(&mut buffer[length..])?;
+        if more == 0 {
+            break;
+        }
+        length += more;
+    }
+    Ok(length)
+}
+
+fn run(rt: &LibcRuntime) -> Result<bool, AnyError> {
+    let heap = rt.alloc();
+    let mut buffer = [0u8; LOOKED_AT];
+    let length = front(rt, &mut buffer)?;
+    let file = &buffer[0..length];
+    let mut chart = Chart::new(heap)?;
+    match chart.read(file) {
+        Ok(()) => {
+            rt.print(report::accepted(heap, &chart)?)?;
+            Ok(true)
+        }
+        Err(fault) => {
+            rt.print(report::refused(heap, file, fault)?)?;
+            Ok(false)
+        }
+    }
+}
+
+// Ends with status 0 for a chart, and with 1 for a file that is refused.
+fn main(rt: LibcRuntime) -> Result<(), AnyError> {
+    if run(&rt)? {
+        Ok(())
+    } else {
+        Err("the file is refused".into())
+    }
+}
