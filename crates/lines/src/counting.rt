@@ -7,24 +7,24 @@ use acts::Message;
 pub fn sends_of(acts: &[Act], message: Message) -> usize
     ensures { λ r. ⌜ r ≡ sends (message .sender) (message .receiver) (message .name) (now (acts .entry)) ⌝ }
 {
-    let mut count = 0;
+    let mut sent = 0;
     for act in acts {
         if act.sends(message) {
-            count += 1;
+            sent += 1;
         }
     }
-    count
+    sent
 }
 
 // How often the acts receive the message.
 pub fn receives_of(acts: &[Act], message: Message) -> usize
     ensures { λ r. ⌜ r ≡ receives (message .sender) (message .receiver) (message .name) (now (acts .entry)) ⌝ }
 {
-    let mut count = 0;
+    let mut received = 0;
     for act in acts {
         if act.receives(message) {
-            count += 1;
+            received += 1;
         }
     }
-    count
+    received
 }

@@ -10,11 +10,11 @@ loop-act-again c =
     let w = c .args .acts .now in
     let i = c .loop-act .act-index in
     elim (c .if-receives .came) [
-      | then-receives x ↦ tally-more t w i (c .loop-act .count) (c .if-receives .count) _ _ (omega arith) (x .if-receives .ensures tt) (c .loop-act .inv) (x .count-is)
-      | else-receives x ↦ tally-more t w i (c .loop-act .count) (c .if-receives .count) _ _ (omega arith) (x .if-receives .ensures tt) (c .loop-act .inv) (x .count-is)
+      | then-receives x ↦ tally-more t w i (c .loop-act .received) (c .if-receives .received) _ _ (omega arith) (x .if-receives .ensures tt) (c .loop-act .inv) (x .received-is)
+      | else-receives x ↦ tally-more t w i (c .loop-act .received) (c .if-receives .received) _ _ (omega arith) (x .if-receives .ensures tt) (c .loop-act .inv) (x .received-is)
     ]
 
 pub returns : need.returns
 returns c =
-    tally-all (receiveOf (c .args .message .sender) (c .args .message .receiver) (c .args .message .name)) (c .args .acts .now) (c .loop-act .act-index) (c .loop-act .count)
+    tally-all (receiveOf (c .args .message .sender) (c .args .message .receiver) (c .args .message .name)) (c .args .acts .now) (c .loop-act .act-index) (c .loop-act .received)
     (c .loop-act-test .left) (c .loop-act .inv .0)

@@ -10,11 +10,11 @@ loop-act-again c =
     let w = c .args .acts .now in
     let i = c .loop-act .act-index in
     elim (c .if-sends .came) [
-      | then-sends x ↦ tally-more t w i (c .loop-act .count) (c .if-sends .count) _ _ (omega arith) (x .if-sends .ensures tt) (c .loop-act .inv) (x .count-is)
-      | else-sends x ↦ tally-more t w i (c .loop-act .count) (c .if-sends .count) _ _ (omega arith) (x .if-sends .ensures tt) (c .loop-act .inv) (x .count-is)
+      | then-sends x ↦ tally-more t w i (c .loop-act .sent) (c .if-sends .sent) _ _ (omega arith) (x .if-sends .ensures tt) (c .loop-act .inv) (x .sent-is)
+      | else-sends x ↦ tally-more t w i (c .loop-act .sent) (c .if-sends .sent) _ _ (omega arith) (x .if-sends .ensures tt) (c .loop-act .inv) (x .sent-is)
     ]
 
 pub returns : need.returns
 returns c =
-    tally-all (sendOf (c .args .message .sender) (c .args .message .receiver) (c .args .message .name)) (c .args .acts .now) (c .loop-act .act-index) (c .loop-act .count)
+    tally-all (sendOf (c .args .message .sender) (c .args .message .receiver) (c .args .message .name)) (c .args .acts .now) (c .loop-act .act-index) (c .loop-act .sent)
     (c .loop-act-test .left) (c .loop-act .inv .0)

@@ -6,5 +6,5 @@ use Rattle.lines.proofs.counting.sends_of.Given as given
 
 abbrev pub Inv-loop-act : given.InvT-loop-act
 Inv-loop-act l =
-    (l .count ≡ sends (l .message .sender) (l .message .receiver) (l .message .name) (take (l .act-index) (l .acts)))
-    × (l .count ≤ l .act-index)
+    (l .sent ≡ sends (l .message .sender) (l .message .receiver) (l .message .name) (take (l .act-index) (l .acts)))
+    × (l .sent ≤ l .act-index)
