@@ -4,12 +4,14 @@ use Rattle.fault.specs.declared.FileCause.{FileCause}
 use Rattle.fault.specs.declared.FileCause.the-variants.{Ends, NotAllowed, OutOfRange, LineFull, GoesOn}
 use Rattle.fault.specs.declared.ChartCause.{ChartCause}
 use Rattle.fault.specs.declared.ChartCause.the-variants.{NotPaired, NotPlayable}
+use Rattle.fault.specs.declared.ChannelCause.{ChannelCause}
+use Rattle.fault.specs.declared.ChannelCause.the-variants.{Denied}
 use Rattle.fault.specs.declared.BookCause.{BookCause}
 use Rattle.fault.specs.declared.BookCause.the-variants.{OutputShort}
 use Rattle.fault.specs.declared.Layer.{Layer}
-use Rattle.fault.specs.declared.Layer.the-variants.{File, Chart, Book}
+use Rattle.fault.specs.declared.Layer.the-variants.{File, Chart, Channel, Book}
 
--- 1 to 5 are the file's, 6 and 7 the chart's, the others the book's
+-- 1 to 5 are the file's, 6 and 7 the chart's, 22 the channel's, the others the book's
 abbrev pub numberOf : Layer → ℕ
 numberOf (File Ends) = 1
 numberOf (File NotAllowed) = 2
@@ -19,3 +21,4 @@ numberOf (File GoesOn) = 5
 numberOf (Chart NotPaired) = 6
 numberOf (Chart NotPlayable) = 7
 numberOf (Book OutputShort) = 17
+numberOf (Channel Denied) = 22

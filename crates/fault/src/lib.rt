@@ -25,6 +25,13 @@ pub enum ChartCause {
     NotPlayable,
 }
 
+// What keeps a channel from carrying an act.
+#[derive(Clone, Copy, PartialEq, Eq, Debug)]
+pub enum ChannelCause {
+    // The channel does not grant the act.
+    Denied,
+}
+
 // What keeps a call from being granted.
 #[derive(Clone, Copy, PartialEq, Eq, Debug)]
 pub enum BookCause {
@@ -37,6 +44,7 @@ pub enum BookCause {
 pub enum Layer {
     File(FileCause),
     Chart(ChartCause),
+    Channel(ChannelCause),
     Book(BookCause),
 }
 
@@ -61,6 +69,7 @@ impl Fault {
             Layer::Chart(ChartCause::NotPaired) => 6,
             Layer::Chart(ChartCause::NotPlayable) => 7,
             Layer::Book(BookCause::OutputShort) => 17,
+            Layer::Channel(ChannelCause::Denied) => 22,
         }
     }
 }

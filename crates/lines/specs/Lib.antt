@@ -1,3 +1,4 @@
+pub mod Progress
 pub mod Playing
 pub mod Pushed
 pub mod Charts

@@ -2,22 +2,13 @@
 use mathlib.Core.Path.{_≡_}
 use mathlib.Core.List.{List, [], _∷_, _++_}
 use mathlib.Core.Bool.{Bool, true, false, _||_}
-use Prim.Native.Nat.{ℕ, _<_, _≤_, _-_}
+use Prim.Native.Nat.{ℕ, _<_}
 use lib.Dec.{ltb}
-use lib.ListN.{length, getD, take}
-use Rattle.std.specs.shelf.Lists.{sumBy}
 use Rattle.acts.specs.declared.Act.{Act}
 use Rattle.acts.specs.Acts.{part, sends, receives, isSend, Lines, line, Own}
 use Rattle.acts.specs.Language.{plays}
 use Rattle.acts.specs.Theorems.{Stuck}
-
--- no party has done more acts than its line has
-abbrev pub Within : Lines → List ℕ → Type 0
-Within c done = (p : ℕ) → getD done p 0 ≤ length (line c p)
-
--- the acts of a party so far
-abbrev pub so-far : Lines → List ℕ → ℕ → List Act
-so-far c done p = take (getD done p 0) (line c p)
+use Rattle.lines.specs.Progress.{Within, so-far, left}
 
 -- a receive needs more sends of its message so far than receives
 abbrev pub ready-by : Lines → List ℕ → Act → Bool
@@ -29,10 +20,6 @@ ready-by c done a =
 pub record Going (c : Lines) (done : List ℕ) (w : List Act) : Type 0 where
   pub playing : plays w ≡ true
   pub parts : (p : ℕ) → part p w ≡ so-far c done p
-
--- what can still be done, at most
-abbrev pub left : List ℕ → ℕ
-left done = sumBy (λ d. 32 - d) done
 
 -- one act more is played, or no line can go on and nothing changes
 pub record Advanced (c : Lines) (done : List ℕ) (moved : Bool) (more : List ℕ) : Type 0 where

@@ -12,9 +12,11 @@ use Rattle.std.proofs.shelf.Tests.{cases-lt}
 use Rattle.acts.specs.declared.Act.{Act}
 use Rattle.acts.specs.Acts.{Lines, line}
 use Rattle.lines.specs.Of.{actsOf, linesOf}
-use Rattle.lines.specs.Playing.{Within, Advanced}
+use Rattle.lines.specs.Playing.{ready-by, Advanced}
+use Rattle.lines.specs.Progress.{Within}
 use Rattle.lines.proofs.Sheets.{no-line}
-use Rattle.lines.proofs.Plays.{Halted, moved, stood, halts-read, halts-done}
+use Rattle.lines.proofs.Plays.{moved, stood}
+use Rattle.lines.proofs.Progress.{Halted, halts-read, halts-done}
 use Rattle.lines.proofs.sheet.Sheet.advance.Needs as need
 use Rattle.lines.proofs.sheet.Sheet.advance.Needs.{else-at-line·by·then-at-line·else-can-play, else-at-line·by·else-at-line}
 
@@ -43,11 +45,11 @@ loop-party-again c =
     let at : i ≡ p = c .from-index .ensures in
     let l : List Act = c .line-line .result .now in
     let e : l ≡ line cl i = c .line-line .ensures .acts ∙ ap (line cl) (sym at) in
-    let here : Halted cl done i = elim (c .else-at-line .came) [
-      | else-at-line·by·then-at-line·else-can-play w ↦ halts-read cl done i l _ e (omega arith) (w .if-can-play .ensures tt)
-      | else-at-line·by·else-at-line w ↦ halts-done cl done i (let size = ap length e in omega arith)
+    let here : Halted (ready-by cl done) cl done i = elim (c .else-at-line .came) [
+      | else-at-line·by·then-at-line·else-can-play w ↦ halts-read (ready-by cl done) cl done i l _ e (omega arith) (sym (w .if-can-play .ensures tt))
+      | else-at-line·by·else-at-line w ↦ halts-done (ready-by cl done) cl done i (let size = ap length e in omega arith)
     ] in
-    (c .loop-party .inv .0, below-more (Halted cl done) p (c .loop-party .inv .1) (subst (Halted cl done) at here))
+    (c .loop-party .inv .0, below-more (Halted (ready-by cl done) cl done) p (c .loop-party .inv .1) (subst (Halted (ready-by cl done) cl done) at here))
 
 pub returns : need.returns
 returns c =
@@ -61,6 +63,6 @@ returns c =
       | inl h ↦ c .loop-party .inv .1 q h
       | inr h ↦
           let none = ap length (no-line actsOf (vec-items (s .lines)) (s .begun) q (omega arith) (omega (arith, s .lines .ok .0))) in
-          halts-done cl done q (omega arith)
+          halts-done (ready-by cl done) cl done q (omega arith)
     ]) in
     subst (λ (x : List ℕ). Advanced cl x false done) same A

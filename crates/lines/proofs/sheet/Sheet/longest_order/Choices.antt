@@ -5,7 +5,8 @@ use lib.ListN.{length}
 use Rattle.acts.specs.declared.Act.{Act}
 use Rattle.acts.specs.Acts.{Own}
 use Rattle.lines.specs.Of.{linesOf}
-use Rattle.lines.specs.Playing.{Within, Going, left}
+use Rattle.lines.specs.Playing.{Going}
+use Rattle.lines.specs.Progress.{Within, left}
 use Rattle.lines.proofs.sheet.Sheet.longest_order.Given as given
 
 -- some playing order with as many acts has brought every party so far
