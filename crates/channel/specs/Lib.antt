@@ -1,5 +1,2 @@
 pub mod Meaning
 pub mod Pairs
-pub mod Ways
-pub mod Places
-pub mod Stores

@@ -1,5 +1,6 @@
 ghost use mathlib.Core.Path.{_≡_};
 ghost use mathlib.Core.List.{List, [], _∷_};
+ghost use Prim.Native.Nat.{_≤_};
 ghost use lib.ListN.{length};
 ghost use Rattle.std.specs.Vec.{made};
 ghost use Rattle.acts.specs.Acts.{line};
@@ -24,14 +25,17 @@ impl Chart {
 
     // How many parties the chart has.
     pub fn parties(&self) -> u8
-        ensures { λ r. ⌜ r ≡ length (linesIn (now (self .entry))) ⌝ }
+        ensures count { λ r. ⌜ r ≡ length (linesIn (now (self .entry))) ⌝ }
+        ensures some { λ r. ⌜ 2 ≤ r ⌝ }
+        ensures few { λ r. ⌜ r ≤ 6 ⌝ }
     {
         self.sheet.begun()
     }
 
     // The acts of a party's line; none where the chart has no such party.
     pub fn line(&self, party: u8) -> &[Act]
-        ensures { λ r. ⌜ now r ≡ line (linesIn (now (self .entry))) party ⌝ }
+        ensures acts { λ r. ⌜ now r ≡ line (linesIn (now (self .entry))) party ⌝ }
+        ensures short { λ r. ⌜ length (now r) ≤ 32 ⌝ }
     {
         self.sheet.line(party)
     }

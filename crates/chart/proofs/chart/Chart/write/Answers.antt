@@ -20,8 +20,8 @@ write-line-end-requires c κs =
     let l₂ = length-set out 0 67 in
     let k = c .loop-party .kept .output in
     let f = length-file cl in
-    let n : p < length cl = omega (arith, c .parties-parties .ensures, c .loop-party-test .taken) in
-    let o = one-line cl p (c .line .result .now) n (c .line .ensures) in
+    let n : p < length cl = omega (arith, c .parties-parties .ensures .count, c .loop-party-test .taken) in
+    let o = one-line cl p (c .line .result .now) n (c .line .ensures .acts) in
     let t = size-take (p + 1) cl in
     let e = c .loop-party .inv .0 in
     let d = c .file-length-due .ensures in
@@ -36,14 +36,14 @@ loop-party-again c =
     let l₁ = length-set (set out 0 67) 1 (c .parties-parties .result) in
     let l₂ = length-set out 0 67 in
     let f = length-file cl in
-    let n : p < length cl = omega (arith, c .parties-parties .ensures, c .loop-party-test .taken) in
-    let o = one-line cl p (c .line .result .now) n (c .line .ensures) in
+    let n : p < length cl = omega (arith, c .parties-parties .ensures .count, c .loop-party-test .taken) in
+    let o = one-line cl p (c .line .result .now) n (c .line .ensures .acts) in
     let e = c .loop-party .inv .0 in
     let d = c .file-length-due .ensures in
     let room : 2 + (2 * length cl + 3 * size cl) ≤ length first = omega arith in (
       (let w = c .write-line-end .ensures .end in omega arith),
       c .write-line-end .ensures .output
-          ∙ lines-put first (c .loop-party .end) p cl (c .line .result .now) (c .loop-party .output) n (c .line .ensures) e room (c .loop-party .inv .1),
+          ∙ lines-put first (c .loop-party .end) p cl (c .line .result .now) (c .loop-party .output) n (c .line .ensures .acts) e room (c .loop-party .inv .1),
     )
 
 pub index-output-end : need.index-output-end
@@ -58,7 +58,7 @@ index-output-end c =
     let t = size-take p cl in
     let e = c .loop-party .inv .0 in
     let d = c .file-length-due .ensures in
-    let n = c .parties-parties .ensures in
+    let n = c .parties-parties .ensures .count in
     omega arith
 
 pub returns : need.returns
@@ -66,7 +66,7 @@ returns c =
     let cl : Lines = linesIn (c .args .self .now) in
     let p : ℕ = c .loop-party .party in
     let out = c .args .output .now in
-    let n = c .parties-parties .ensures in
+    let n = c .parties-parties .ensures .count in
     let d = c .file-length-due .ensures in
     record {
       room = omega arith;

@@ -1,4 +1,0 @@
-pub mod Steps
-pub mod Ways
-pub mod Counting
-pub mod Storing
