@@ -1,2 +1,5 @@
 pub mod Meaning
 pub mod Pairs
+pub mod Ways
+pub mod Places
+pub mod Stores

@@ -1,1 +1,7 @@
+pub mod bag;
 pub mod channel;
+pub mod line;
+mod pile;
+mod place;
+mod queue;
+mod store;

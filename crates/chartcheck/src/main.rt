@@ -2,7 +2,12 @@
 ghost use Prim.Native.Nat.{_≤_};
 ghost use lib.ListN.{length};
 ghost use Rattle.std.specs.Vec.{made};
+use channel::bag::Bag;
+use channel::bag::BagChannel;
+use channel::line::Line;
+use channel::line::LineChannel;
 use chart::chart::Chart;
+use conversation::order::Order;
 use std::error::AnyError;
 use std::io;
 use std::io::Read;
@@ -28,6 +33,17 @@ fn front(rt: &LibcRuntime, buffer: &mut [u8]) -> io::Result<usize>
     Ok(length)
 }
 
+// What the chart does over a link that keeps the order of its messages, and over one that does not.
+fn links(rt: &LibcRuntime, chart: &Chart) -> Result<(), AnyError> {
+    let heap = rt.alloc();
+    let mut order = Order::new(heap)?;
+    let mut line = Line::new(heap)?;
+    rt.print(report::link_words(heap, "the line", &mut line, chart, &mut order)?)?;
+    let mut bag = Bag::new();
+    rt.print(report::link_words(heap, "the bag", &mut bag, chart, &mut order)?)?;
+    Ok(())
+}
+
 fn run(rt: &LibcRuntime) -> Result<bool, AnyError> {
     let heap = rt.alloc();
     let mut buffer = [0u8; LOOKED_AT];
@@ -37,6 +53,7 @@ fn run(rt: &LibcRuntime) -> Result<bool, AnyError> {
     match chart.read(file) {
         Ok(()) => {
             rt.print(report::accepted(heap, &chart)?)?;
+            links(rt, &chart)?;
             Ok(true)
         }
         Err(fault) => {

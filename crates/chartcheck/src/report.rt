@@ -1,8 +1,12 @@
 // What took place, in words.
 use acts::Act;
 use acts::Letter;
+use channel::channel::Channel;
 use chart::chart::Chart;
+use conversation::order::Order;
+use conversation::run::run;
 use fault::BookCause;
+use fault::ChannelCause;
 use fault::ChartCause;
 use fault::Fault;
 use fault::FileCause;
@@ -16,6 +20,7 @@ const LONGEST: usize = 591;
 // Bytes in one line of hexadecimal digits.
 const WIDTH: usize = 16;
 
+// What an act does.
 fn act_words(heap: Global, act: Act) -> Result<String, AllocError> {
     let name = act.name;
     let peer = act.peer;
@@ -82,6 +87,22 @@ pub fn accepted(heap: Global, chart: &Chart) -> Result<String, AllocError> {
     Ok(text)
 }
 
+// Whether the chart has a conversation over a link, with the acts carried one after another.
+pub fn link_words<C: Channel>(heap: Global, link: &str, channel: &mut C, chart: &Chart, order: &mut Order) -> Result<String, AllocError> {
+    let carried = run(channel, chart, order);
+    if carried < chart.size() {
+        return format!(heap, "over {link}: no conversation, stuck after {carried} acts\n");
+    }
+    let mut text = format!(heap, "over {link}: a conversation\n")?;
+    for act in order.acts() {
+        let party = act.party;
+        text.push_str(format!(heap, "  {party}")?.as_str())?;
+        text.push_str(act_words(heap, *act)?.as_str())?;
+        text.push_str("\n")?;
+    }
+    Ok(text)
+}
+
 fn cause_words(layer: Layer) -> &'static str {
     match layer {
         Layer::File(FileCause::Ends) => "the file ends where more is due",
@@ -91,6 +112,7 @@ fn cause_words(layer: Layer) -> &'static str {
         Layer::File(FileCause::GoesOn) => "the chart is complete, and bytes follow",
         Layer::Chart(ChartCause::NotPaired) => "a message is not sent as often as it is received",
         Layer::Chart(ChartCause::NotPlayable) => "no playing order holds all acts",
+        Layer::Channel(ChannelCause::Denied) => "the channel does not grant the act",
         Layer::Book(BookCause::OutputShort) => "the output is too short",
     }
 }

@@ -1,0 +1,4 @@
+pub mod Steps
+pub mod Ways
+pub mod Counting
+pub mod Storing

@@ -1,0 +1,4 @@
+pub mod mute;
+
+#[cfg(test)]
+mod tests;
