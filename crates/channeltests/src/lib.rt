@@ -1,4 +1,3 @@
 pub mod mute;
-
 #[cfg(test)]
 mod tests;

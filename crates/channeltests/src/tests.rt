@@ -1,3 +1,5 @@
+use crate::mute::Mute;
+use crate::mute::MuteChannel;
 use acts::Act;
 use acts::Letter;
 use channel::bag::Bag;
@@ -8,13 +10,29 @@ use channel::line::LineChannel;
 use chart::chart::Chart;
 use conversation::order::Order;
 use conversation::run::run;
-use crate::mute::Mute;
-use crate::mute::MuteChannel;
 use std::test::*;
 
 // 0 sends 1, then 2; 1 receives 2, then 1.
 const CROSSING: [u8; 19] = [
-    0x43, 2, 0x4c, 0, 0x53, 1, 1, 0x53, 1, 2, 0x4c, 1, 0x52, 0, 2, 0x52, 0, 1, 0x5a,
+    0x43,
+    2,
+    0x4c,
+    0,
+    0x53,
+    1,
+    1,
+    0x53,
+    1,
+    2,
+    0x4c,
+    1,
+    0x52,
+    0,
+    2,
+    0x52,
+    0,
+    1,
+    0x5a,
 ];
 
 fn send(name: u8) -> Act {
@@ -76,7 +94,14 @@ fn pairs_fill_up(rt: LibcRuntime) -> Result<(), Fail> {
 // An act out of range is denied, and nothing changes.
 fn out_of_range<C: Channel>(channel: &mut C) -> Result<(), Fail> {
     channel.clear();
-    check(channel.carry(Act { party: 6, ..send(1) }).is_err())?;
+    check(
+        channel
+            .carry(Act {
+                party: 6,
+                ..send(1)
+            })
+            .is_err(),
+    )?;
     check(channel.carry(Act { peer: 6, ..send(1) }).is_err())?;
     check(channel.carry(Act { peer: 0, ..send(1) }).is_err())?;
     check(channel.carry(send(32)).is_err())?;

@@ -5,7 +5,6 @@ use channel::channel::Channel;
 use chart::chart::Chart;
 use conversation::order::Order;
 use conversation::run::run;
-use fault::BookCause;
 use fault::ChannelCause;
 use fault::ChartCause;
 use fault::Fault;
@@ -88,10 +87,19 @@ pub fn accepted(heap: Global, chart: &Chart) -> Result<String, AllocError> {
 }
 
 // Whether the chart has a conversation over a link, with the acts carried one after another.
-pub fn link_words<C: Channel>(heap: Global, link: &str, channel: &mut C, chart: &Chart, order: &mut Order) -> Result<String, AllocError> {
+pub fn link_words<C: Channel>(
+    heap: Global,
+    link: &str,
+    channel: &mut C,
+    chart: &Chart,
+    order: &mut Order,
+) -> Result<String, AllocError> {
     let carried = run(channel, chart, order);
     if carried < chart.size() {
-        return format!(heap, "over {link}: no conversation, stuck after {carried} acts\n");
+        return format!(
+            heap,
+            "over {link}: no conversation, stuck after {carried} acts\n"
+        );
     }
     let mut text = format!(heap, "over {link}: a conversation\n")?;
     for act in order.acts() {
@@ -113,7 +121,7 @@ fn cause_words(layer: Layer) -> &'static str {
         Layer::Chart(ChartCause::NotPaired) => "a message is not sent as often as it is received",
         Layer::Chart(ChartCause::NotPlayable) => "no playing order holds all acts",
         Layer::Channel(ChannelCause::Denied) => "the channel does not grant the act",
-        Layer::Book(BookCause::OutputShort) => "the output is too short",
+        Layer::Book(_) => "the call is not granted",
     }
 }
 

@@ -4,10 +4,10 @@ ghost use Rattle.lines.specs.Progress.{Within};
 ghost use Rattle.chart.specs.Of.{linesIn};
 ghost use Rattle.channel.specs.Meaning.{cleared};
 ghost use Rattle.conversation.specs.Running.{Stepped, Ran};
+use crate::order::Order;
 use acts::Act;
 use channel::channel::Channel;
 use chart::chart::Chart;
-use crate::order::Order;
 
 // Carries the next act of the first party whose next act the channel grants.
 fn advance<C: Channel>(channel: &mut C, chart: &Chart, done: &mut [usize; 6]) -> Option<Act>
@@ -33,13 +33,13 @@ pub fn run<C: Channel>(channel: &mut C, chart: &Chart, order: &mut Order) -> usi
     ensures clear { λ _. ⌜ C·Channel .meaning (now (channel .exit)) ≡ cleared (C·Channel .meaning (now (channel .entry))) ⌝ }
 {
     order.clear();
-    channel.clear();
+    channel.clear(); // of what an earlier use left
     let mut done = [0usize; 6];
     let mut count = 0;
     while let Some(act) = advance(channel, chart, &mut done) {
         order.push(act);
         count += 1;
     }
-    channel.clear();
+    channel.clear(); // of what a run that is stuck leaves
     count
 }

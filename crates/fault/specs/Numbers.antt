@@ -7,7 +7,7 @@ use Rattle.fault.specs.declared.ChartCause.the-variants.{NotPaired, NotPlayabl
 use Rattle.fault.specs.declared.ChannelCause.{ChannelCause}
 use Rattle.fault.specs.declared.ChannelCause.the-variants.{Denied}
 use Rattle.fault.specs.declared.BookCause.{BookCause}
-use Rattle.fault.specs.declared.BookCause.the-variants.{OutputShort}
+use Rattle.fault.specs.declared.BookCause.the-variants.{InPlay, IdAbove, IdTaken, OtherParties, EqualChart, NoConversation, IdFree, OutputShort}
 use Rattle.fault.specs.declared.Layer.{Layer}
 use Rattle.fault.specs.declared.Layer.the-variants.{File, Chart, Channel, Book}
 
@@ -20,5 +20,12 @@ numberOf (File LineFull) = 4
 numberOf (File GoesOn) = 5
 numberOf (Chart NotPaired) = 6
 numberOf (Chart NotPlayable) = 7
+numberOf (Book InPlay) = 8
+numberOf (Book IdAbove) = 9
+numberOf (Book IdTaken) = 10
+numberOf (Book OtherParties) = 11
+numberOf (Book EqualChart) = 12
+numberOf (Book NoConversation) = 13
+numberOf (Book IdFree) = 14
 numberOf (Book OutputShort) = 17
 numberOf (Channel Denied) = 22

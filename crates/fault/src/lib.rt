@@ -35,6 +35,20 @@ pub enum ChannelCause {
 // What keeps a call from being granted.
 #[derive(Clone, Copy, PartialEq, Eq, Debug)]
 pub enum BookCause {
+    // A play is on.
+    InPlay,
+    // The id is above 7.
+    IdAbove,
+    // The id names a held chart already.
+    IdTaken,
+    // A held chart has another number of parties.
+    OtherParties,
+    // A held chart is equal.
+    EqualChart,
+    // The chart has no conversation over the channel.
+    NoConversation,
+    // The id names no held chart.
+    IdFree,
     // The output is too short.
     OutputShort,
 }
@@ -68,6 +82,13 @@ impl Fault {
             Layer::File(FileCause::GoesOn) => 5,
             Layer::Chart(ChartCause::NotPaired) => 6,
             Layer::Chart(ChartCause::NotPlayable) => 7,
+            Layer::Book(BookCause::InPlay) => 8,
+            Layer::Book(BookCause::IdAbove) => 9,
+            Layer::Book(BookCause::IdTaken) => 10,
+            Layer::Book(BookCause::OtherParties) => 11,
+            Layer::Book(BookCause::EqualChart) => 12,
+            Layer::Book(BookCause::NoConversation) => 13,
+            Layer::Book(BookCause::IdFree) => 14,
             Layer::Book(BookCause::OutputShort) => 17,
             Layer::Channel(ChannelCause::Denied) => 22,
         }

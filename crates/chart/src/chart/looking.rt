@@ -1,4 +1,6 @@
 ghost use mathlib.Core.Path.{_≡_};
+ghost use mathlib.Core.Logic.{_↔_};
+ghost use mathlib.Core.Bool.{true};
 ghost use mathlib.Core.List.{List, [], _∷_};
 ghost use Prim.Native.Nat.{_≤_};
 ghost use lib.ListN.{length};
@@ -9,6 +11,7 @@ ghost use Rattle.lines.specs.Charts.{Is-chart};
 ghost use Rattle.chart.specs.Of.{linesIn};
 use crate::chart::Chart;
 use acts::Act;
+use acts::ActPartialEq;
 use lines::sheet::Sheet;
 use std::alloc::AllocError;
 use std::alloc::Global;
@@ -45,6 +48,22 @@ impl Chart {
         ensures { λ r. ⌜ r ≡ size (linesIn (now (self .entry))) ⌝ }
     {
         self.sheet.size()
+    }
+
+    // Whether the two charts have the same lines.
+    pub fn same_lines(&self, other: &Chart) -> bool
+        ensures { λ r. ⌜ (r ≡ true) ↔ (linesIn (now (self .entry)) ≡ linesIn (now (other .entry))) ⌝ }
+    {
+        let parties = self.parties();
+        if parties != other.parties() {
+            return false;
+        }
+        for party in 0..parties {
+            if self.line(party) != other.line(party) {
+                return false;
+            }
+        }
+        true
     }
 
     // What every chart keeps.

@@ -1,0 +1,5 @@
+pub mod History
+pub mod Right
+pub mod Past
+pub mod Finding
+pub mod Law
