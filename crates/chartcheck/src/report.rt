@@ -122,6 +122,7 @@ fn cause_words(layer: Layer) -> &'static str {
         Layer::Chart(ChartCause::NotPlayable) => "no playing order holds all acts",
         Layer::Channel(ChannelCause::Denied) => "the channel does not grant the act",
         Layer::Book(_) => "the call is not granted",
+        Layer::Session(_) => "the session cannot go on",
     }
 }
 

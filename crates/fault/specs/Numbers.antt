@@ -8,10 +8,12 @@ use Rattle.fault.specs.declared.ChannelCause.{ChannelCause}
 use Rattle.fault.specs.declared.ChannelCause.the-variants.{Denied}
 use Rattle.fault.specs.declared.BookCause.{BookCause}
 use Rattle.fault.specs.declared.BookCause.the-variants.{InPlay, IdAbove, IdTaken, OtherParties, EqualChart, NoConversation, IdFree, OutputShort}
+use Rattle.fault.specs.declared.SessionCause.{SessionCause}
+use Rattle.fault.specs.declared.SessionCause.the-variants.{UnknownLetter, CutShort}
 use Rattle.fault.specs.declared.Layer.{Layer}
-use Rattle.fault.specs.declared.Layer.the-variants.{File, Chart, Channel, Book}
+use Rattle.fault.specs.declared.Layer.the-variants.{File, Chart, Channel, Book, Session}
 
--- 1 to 5 are the file's, 6 and 7 the chart's, 22 the channel's, the others the book's
+-- 1 to 5 are the file's, 6 and 7 the chart's, 22 the channel's, 24 and 25 the session's, the others the book's
 abbrev pub numberOf : Layer → ℕ
 numberOf (File Ends) = 1
 numberOf (File NotAllowed) = 2
@@ -29,3 +31,5 @@ numberOf (Book NoConversation) = 13
 numberOf (Book IdFree) = 14
 numberOf (Book OutputShort) = 17
 numberOf (Channel Denied) = 22
+numberOf (Session UnknownLetter) = 24
+numberOf (Session CutShort) = 25

@@ -53,6 +53,15 @@ pub enum BookCause {
     OutputShort,
 }
 
+// What keeps a session from going on.
+#[derive(Clone, Copy, PartialEq, Eq, Debug)]
+pub enum SessionCause {
+    // No command has this letter.
+    UnknownLetter,
+    // The session ends inside a command.
+    CutShort,
+}
+
 // The layer that found a fault, with that layer's own cause.
 #[derive(Clone, Copy, PartialEq, Eq, Debug)]
 pub enum Layer {
@@ -60,6 +69,7 @@ pub enum Layer {
     Chart(ChartCause),
     Channel(ChannelCause),
     Book(BookCause),
+    Session(SessionCause),
 }
 
 // A refusal: the layer that found it, and the place that it found it at.
@@ -91,6 +101,8 @@ impl Fault {
             Layer::Book(BookCause::IdFree) => 14,
             Layer::Book(BookCause::OutputShort) => 17,
             Layer::Channel(ChannelCause::Denied) => 22,
+            Layer::Session(SessionCause::UnknownLetter) => 24,
+            Layer::Session(SessionCause::CutShort) => 25,
         }
     }
 }
