@@ -2,6 +2,7 @@ use crate::mute::Mute;
 use crate::mute::MuteChannel;
 use acts::Act;
 use acts::Letter;
+use book::book::Book;
 use channel::bag::Bag;
 use channel::bag::BagChannel;
 use channel::channel::Channel;
@@ -114,6 +115,25 @@ fn out_of_range_is_denied(rt: LibcRuntime) -> Result<(), Fail> {
     out_of_range(&mut Line::new(rt.alloc())?)?;
     out_of_range(&mut Bag::new())?;
     out_of_range(&mut Mute { mark: 0 })
+}
+
+// A book over a channel that denies every act takes charts without acts only.
+#[test]
+fn mute_book(rt: LibcRuntime) -> Result<(), Fail> {
+    let heap = rt.alloc();
+    let mut book = Book::new(heap, Mute { mark: 0 })?;
+    let mut chart = Chart::new(heap)?;
+    check(chart.read(&CROSSING).is_ok())?;
+    match book.add(0, chart) {
+        Ok(_) => Err(Fail::new("a chart with acts was taken")),
+        Err(fault) => {
+            check(fault.number() == 13)?;
+            check(fault.place == 0)
+        }
+    }?;
+    check(book.add(0, Chart::new(heap)?).is_ok())?;
+    check(book.withdraw(0).is_ok())?;
+    check(book.withdraw(0).is_err())
 }
 
 #[test]

@@ -1,37 +1,17 @@
 // Reads one chart file from standard input and says what it holds, or what spoils it.
-ghost use Prim.Native.Nat.{_≤_};
-ghost use lib.ListN.{length};
-ghost use Rattle.std.specs.Vec.{made};
 use channel::bag::Bag;
 use channel::bag::BagChannel;
 use channel::line::Line;
 use channel::line::LineChannel;
 use chart::chart::Chart;
 use conversation::order::Order;
+use input::front;
 use std::error::AnyError;
-use std::io;
-use std::io::Read;
 
 mod report;
 
 // No chart file has more than 591 bytes, and the first 593 bytes of any input tell its answer.
 const LOOKED_AT: usize = 1024;
-
-// The input's front, up to as many bytes as the buffer takes.
-fn front(rt: &LibcRuntime, buffer: &mut [u8]) -> io::Result<usize>
-    ensures { λ r. ⌜ made r (λ n. n ≤ length (now (buffer .entry))) ⌝ }
-{
-    let mut input = rt.stdin();
-    let mut length = 0;
-    for _ in 0..buffer.len() {
-        let more = input.read(&mut buffer[length..])?;
-        if more == 0 {
-            break;
-        }
-        length += more;
-    }
-    Ok(length)
-}
 
 // What the chart does over a link that keeps the order of its messages, and over one that does not.
 fn links(rt: &LibcRuntime, chart: &Chart) -> Result<(), AnyError> {

@@ -35,7 +35,12 @@ fn answer_line(heap: Global, letter: &str, answer: Result<u8, Fault>) -> Result<
 }
 
 // Reads a chart file and adds its chart under the id.
-fn added<C: Channel>(heap: Global, book: &mut Book<C>, id: u8, file: &[u8]) -> Result<Result<u8, Fault>, AllocError>
+fn added<C: Channel>(
+    heap: Global,
+    book: &mut Book<C>,
+    id: u8,
+    file: &[u8],
+) -> Result<Result<u8, Fault>, AllocError>
     ensures { λ r. ⌜ made r (λ a. Adds (C·Channel .meaning (now (book .entry) .channel)) (chartsOf (now (book .entry))) id (now (file .entry)) a (C·Channel .meaning (now (book .exit) .channel)) (chartsOf (now (book .exit)))) ⌝ }
 {
     let mut chart = Chart::new(heap)?;
@@ -46,7 +51,12 @@ fn added<C: Channel>(heap: Global, book: &mut Book<C>, id: u8, file: &[u8]) -> R
 }
 
 // The line of a session that cannot go on.
-fn stopped(heap: Global, cause: SessionCause, place: usize, text: &mut String) -> Result<Option<usize>, AllocError>
+fn stopped(
+    heap: Global,
+    cause: SessionCause,
+    place: usize,
+    text: &mut String,
+) -> Result<Option<usize>, AllocError>
     ensures { λ r. ⌜ made r (λ next. (next ≡ None) × (string-bytes (now (text .exit)) ≡ string-bytes (now (text .entry)) ++ answerText 63 (Err (record { layer = Session cause; place = place })))) ⌝ }
 {
     let fault = Fault {
@@ -67,7 +77,13 @@ fn from_offset(session: &[u8], at: usize) -> &[u8]
 }
 
 // A: an id, a length of two bytes, and that many bytes of a chart file.
-fn add_command<C: Channel>(heap: Global, book: &mut Book<C>, session: &[u8], at: usize, text: &mut String) -> Result<Option<usize>, AllocError>
+fn add_command<C: Channel>(
+    heap: Global,
+    book: &mut Book<C>,
+    session: &[u8],
+    at: usize,
+    text: &mut String,
+) -> Result<Option<usize>, AllocError>
     requires within { ⌜ at < length (now session) ⌝ }
     requires letter { ⌜ getD (drop at (now session)) 0 0 ≡ 65 ⌝ }
     ensures { λ r. ⌜ made r (λ next. Steps (C·Channel .meaning (now (book .entry) .channel)) (chartsOf (now (book .entry))) (now (session .entry)) at (string-bytes (now (text .entry))) next (string-bytes (now (text .exit))) (C·Channel .meaning (now (book .exit) .channel)) (chartsOf (now (book .exit)))) ⌝ }
@@ -86,7 +102,13 @@ fn add_command<C: Channel>(heap: Global, book: &mut Book<C>, session: &[u8], at:
 }
 
 // W: an id.
-fn withdraw_command<C: Channel>(heap: Global, book: &mut Book<C>, session: &[u8], at: usize, text: &mut String) -> Result<Option<usize>, AllocError>
+fn withdraw_command<C: Channel>(
+    heap: Global,
+    book: &mut Book<C>,
+    session: &[u8],
+    at: usize,
+    text: &mut String,
+) -> Result<Option<usize>, AllocError>
     requires within { ⌜ at < length (now session) ⌝ }
     requires letter { ⌜ getD (drop at (now session)) 0 0 ≡ 87 ⌝ }
     ensures { λ r. ⌜ made r (λ next. Steps (C·Channel .meaning (now (book .entry) .channel)) (chartsOf (now (book .entry))) (now (session .entry)) at (string-bytes (now (text .entry))) next (string-bytes (now (text .exit))) (C·Channel .meaning (now (book .exit) .channel)) (chartsOf (now (book .exit)))) ⌝ }
@@ -101,7 +123,13 @@ fn withdraw_command<C: Channel>(heap: Global, book: &mut Book<C>, session: &[u8]
 }
 
 // One command; answers where the next one is due, or nothing where the session cannot go on.
-fn command<C: Channel>(heap: Global, book: &mut Book<C>, session: &[u8], at: usize, text: &mut String) -> Result<Option<usize>, AllocError>
+fn command<C: Channel>(
+    heap: Global,
+    book: &mut Book<C>,
+    session: &[u8],
+    at: usize,
+    text: &mut String,
+) -> Result<Option<usize>, AllocError>
     requires { ⌜ at < length (now session) ⌝ }
     ensures { λ r. ⌜ made r (λ next. Steps (C·Channel .meaning (now (book .entry) .channel)) (chartsOf (now (book .entry))) (now (session .entry)) at (string-bytes (now (text .entry))) next (string-bytes (now (text .exit))) (C·Channel .meaning (now (book .exit) .channel)) (chartsOf (now (book .exit)))) ⌝ }
 {
@@ -113,7 +141,11 @@ fn command<C: Channel>(heap: Global, book: &mut Book<C>, session: &[u8], at: usi
 }
 
 // The text that a session over the channel gives.
-pub fn session_text<C: Channel + Drop>(heap: Global, channel: C, session: &[u8]) -> Result<String, AllocError>
+pub fn session_text<C: Channel + Drop>(
+    heap: Global,
+    channel: C,
+    session: &[u8],
+) -> Result<String, AllocError>
     ensures { λ r. ⌜ made r (λ t. string-bytes t ≡ sessionText (C·Channel .meaning channel .clearly) (now (session .entry))) ⌝ }
 {
     let mut book = Book::new(heap, channel)?;
