@@ -4,6 +4,7 @@ ghost use Rattle.std.specs.Of.Vec.{vec-len};
 use crate::party_line::PartyLine;
 
 mod filling;
+mod looking;
 mod pairing;
 mod playing;
 

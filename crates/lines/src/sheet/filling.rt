@@ -5,8 +5,6 @@ ghost use Prim.Native.Nat.{ℕ, _+_, _<_, _≤_};
 ghost use lib.Dec.{ltb, leb, eqb};
 ghost use lib.ListN.{length, getD, replicate};
 ghost use Rattle.std.specs.Vec.{made};
-ghost use Rattle.acts.specs.Acts.{line};
-ghost use Rattle.acts.specs.Language.{size};
 ghost use Rattle.lines.specs.Charts.{newest, lengthened};
 ghost use Rattle.lines.specs.Of.{linesOf};
 use crate::party_line::PartyLine;
@@ -31,32 +29,6 @@ impl Sheet {
             begun: 2,
             lines,
         })
-    }
-
-    // How many parties there are.
-    pub fn parties(&self) -> u8
-        ensures { λ r. ⌜ r ≡ now (self .entry) .parties ⌝ }
-    {
-        self.parties
-    }
-
-    // How many lines have begun.
-    pub fn begun(&self) -> u8
-        ensures { λ r. ⌜ r ≡ length (linesOf (now (self .entry))) ⌝ }
-    {
-        self.begun
-    }
-
-    // The acts of a party's line; none where it has no line.
-    pub fn line(&self, party: u8) -> &[Act]
-        ensures acts { λ r. ⌜ now r ≡ line (linesOf (now (self .entry))) party ⌝ }
-        ensures short { λ r. ⌜ length (now r) ≤ 32 ⌝ }
-    {
-        if party < self.begun {
-            self.lines[usize::from(party)].acts()
-        } else {
-            &[]
-        }
     }
 
     // No parties and no lines.
@@ -107,16 +79,5 @@ impl Sheet {
             return false;
         }
         self.lines[usize::from(self.begun - 1)].push(act)
-    }
-
-    // How many acts all lines hold.
-    pub fn size(&self) -> usize
-        ensures { λ r. ⌜ r ≡ size (linesOf (now (self .entry))) ⌝ }
-    {
-        let mut sum = 0;
-        for party in 0..self.begun {
-            sum += self.line(party).len();
-        }
-        sum
     }
 }
