@@ -45,13 +45,19 @@ fn line_words(heap: Global, party: u8, acts: &[Act]) -> Result<String, AllocErro
     Ok(text)
 }
 
-// Bytes as pairs of hexadecimal digits, sixteen to a line, each line with its offset; the marked
-// byte stands in brackets.
-fn hex_words(heap: Global, bytes: &[u8], mark: Option<usize>) -> Result<String, AllocError> {
+// Bytes as pairs of hexadecimal digits, sixteen to a line, each line with its offset, of which the
+// first is given; the marked byte stands in brackets.
+fn hex_words(
+    heap: Global,
+    bytes: &[u8],
+    offset: usize,
+    mark: Option<usize>,
+) -> Result<String, AllocError> {
     let mut text = String::new(heap);
     for (at, byte) in bytes.iter().enumerate() {
         if at % WIDTH == 0 {
-            text.push_str(format!(heap, "{at:>5} ")?.as_str())?;
+            let place = offset.saturating_add(at);
+            text.push_str(format!(heap, "{place:>5} ")?.as_str())?;
         }
         let spot = mark == Some(at);
         let digits = if spot {
@@ -81,7 +87,7 @@ pub fn accepted(heap: Global, chart: &Chart) -> Result<String, AllocError> {
     let mut output = [0u8; LONGEST];
     if let Ok(length) = chart.write(&mut output) {
         text.push_str(format!(heap, "its file of {length} bytes\n")?.as_str())?;
-        text.push_str(hex_words(heap, &output[0..length], None)?.as_str())?;
+        text.push_str(hex_words(heap, &output[0..length], 0, None)?.as_str())?;
     }
     Ok(text)
 }
@@ -143,19 +149,21 @@ fn place_words(heap: Global, file: &[u8], fault: Fault) -> Result<String, AllocE
     }
 }
 
-// The line of the file that has the spot, or its last line and a mark where it ends.
+// The line of the file that has the spot, or what stands before its end.
 fn spot_words(heap: Global, file: &[u8], place: u64) -> Result<String, AllocError> {
     let length = file.len();
     let spot = match usize::try_from(place) {
         Ok(spot) => spot.min(length),
         Err(_) => length,
     };
-    if spot == length {
-        let mut text = hex_words(heap, file, None)?;
-        text.push_str("      [end]\n")?;
-        return Ok(text);
+    let start = spot - spot % WIDTH;
+    let end = start.saturating_add(WIDTH).min(length);
+    if spot < length {
+        return hex_words(heap, &file[start..end], start, Some(spot - start));
     }
-    hex_words(heap, file, Some(spot))
+    let mut text = hex_words(heap, &file[start..end], start, None)?;
+    text.push_str("      [end]\n")?;
+    Ok(text)
 }
 
 // A refusal: its number and place, what it means, and the spot.
