@@ -7,33 +7,27 @@ gives. The gate does not run this script: it compares the proved programs with t
 """
 import sys
 
-from chart_model import read, written
+from chart_model import greedy, read, written
 
 
 def most_acts(lines, ordered):
     """How many acts a greedy run carries over a channel of 32 messages a pair."""
-    done, waiting, carried = [0] * len(lines), {}, 0
-    moved = True
-    while moved:
-        moved = False
-        for party, line in enumerate(lines):
-            if done[party] == len(line):
-                continue
-            letter, peer, name = line[done[party]]
-            if letter == "S":
-                queue = waiting.setdefault((party, peer), [])
-                if len(queue) == 32:
-                    continue
-                queue.append(name)
-            else:
-                queue = waiting.get((peer, party), [])
-                if name not in (queue[:1] if ordered else queue):
-                    continue
-                queue.remove(name)
-            done[party] += 1
-            carried += 1
-            moved = True
-    return carried
+    waiting = {}
+
+    def carry(party, letter, peer, name):
+        if letter == "S":
+            queue = waiting.setdefault((party, peer), [])
+            if len(queue) == 32:
+                return False
+            queue.append(name)
+        else:
+            queue = waiting.get((peer, party), [])
+            if name not in (queue[:1] if ordered else queue):
+                return False
+            queue.remove(name)
+        return True
+
+    return greedy(lines, carry)
 
 
 def add(book, ident, lines, ordered):
