@@ -3,7 +3,7 @@ ghost use Rattle.lines.specs.Of.{lines_of};
 
 use lines::sheet::Sheet;
 
-mod files;
+mod filing;
 mod looking;
 
 // A chart: for each of two to six parties a line of up to 32 acts. Every message is sent as often

@@ -14,17 +14,17 @@ returns-then-acts-size c L =
       lines = cl;
       lined = L;
       whole = refl;
-      paired = all_paired cl L c.in-default.ensures;
-      acts = c.longest-order-acts.result;
-      longest = c.longest-order-acts.ensures (begun_own (length cl) cl L);
-      fewer = subst (λ (n : ℕ). c.longest-order-acts.result < n) c.size.ensures c.if-acts-size.true;
+      paired = all_paired cl L c.in_default.ensures;
+      acts = c.longest_order-acts.result;
+      longest = c.longest_order-acts.ensures (begun_own (length cl) cl L);
+      fewer = subst (λ (n : ℕ). c.longest_order-acts.result < n) c.size.ensures c.if-acts-size.true;
       fault = refl;
     })
 
 pub returns : goal.returns
 returns c L =
     let cl : Lines = lines_of c.args.sheet.now in
-    let k : ℕ = c.longest-order-acts.result in
-    let o : LongestOrder cl k = c.longest-order-acts.ensures (begun_own (length cl) cl L) in
+    let k : ℕ = c.longest_order-acts.result in
+    let o : LongestOrder cl k = c.longest_order-acts.ensures (begun_own (length cl) cl L) in
     let all : k ≡ size cl = (let e = c.size.ensures in let b = longest_below cl k L o in omega (arith, c.if-acts-size.false)) in
-    record { lined = L; paired = all_paired cl L c.in-default.ensures; playable = playable_from cl L (subst (LongestOrder cl) all o) }
+    record { lined = L; paired = all_paired cl L c.in_default.ensures; playable = playable_from cl L (subst (LongestOrder cl) all o) }

@@ -6,8 +6,8 @@ use Rattle.chart.proofs.writer.write_line.Goals as goal
 pub loop-act-init : goal.loop-act-init
 loop-act-init c = (omega arith, sym (put-none _ (c.args.at + 2)))
 
-pub write-act-requires : goal.write-act-requires
-write-act-requires c =
+pub write_act-requires : goal.write_act-requires
+write_act-requires c =
     let out = c.args.output.now in
     let l₁ = length-set (set out c.args.at 76) (c.args.at + 1) c.args.party in
     let l₂ = length-set out c.args.at 76 in
@@ -15,8 +15,8 @@ write-act-requires c =
     let e = c.loop-act.invariant.0 in
     omega arith
 
-pub overflow-add-end-in-loop-act : goal.overflow-add-end-in-loop-act
-overflow-add-end-in-loop-act c =
+pub overflow_add-end-in-loop-act : goal.overflow_add-end-in-loop-act
+overflow_add-end-in-loop-act c =
     let out = c.args.output.now in
     let l₁ = length-set (set out c.args.at 76) (c.args.at + 1) c.args.party in
     let l₂ = length-set out c.args.at 76 in
@@ -33,7 +33,7 @@ loop-act-preserved c =
     let e = c.loop-act.invariant.0 in
     let room : (c.args.at + 2) + 3 * length c.args.acts.now ≤ length first = omega arith in (
       omega arith,
-      c.write-act.ensures
+      c.write_act.ensures
           ∙ acts_put first (c.args.at + 2) c.loop-act.end c.loop-act.act-index c.args.acts.now c.loop-act.output _
           c.loop-act-test.true e room c.loop-act.invariant.1,
     )

@@ -41,7 +41,7 @@ loop-act-preserved g c =
     let e : vec_items c.push.new.self.acts ≡ w ++ (a ∷ []) = noted_more w _ a c.loop-act.count i.3 room c.push.ensures in (
       M.within,
       (let b = i.1 in omega arith),
-      c.type-inv.done,
+      c.type_inv.done,
       ap length e ∙ length_push w a ∙ ap (λ (x : ℕ). x + 1) i.3,
       subst (Going n.clearly _ cl _) (sym e)
           (M.on (begun_own (length cl) cl L) n.clearly (g.met.C.Channel.lawful c.clear-2.new.self) w i.4),
@@ -56,7 +56,7 @@ returns g c =
     let n : Meaning = g.C.Channel.meaning c.clear-2.new.self in
     let i = c.loop-act.invariant in
     let w : List Act = vec_items c.loop-act.order.acts in
-    let S = c.in-default.ensures in
+    let S = c.in_default.ensures in
     let e : n.clearly ≡ m.clearly = ap (λ (x : Meaning). x.clearly) c.clear-2.ensures in
     let r : Ran n.clearly cl w (length w) = ended n.clearly cl w (g.met.C.Channel.lawful c.clear-2.new.self) (begun_own (length cl) cl L) ch.paired (S.stuck n.clearly w i.4) in
     record {

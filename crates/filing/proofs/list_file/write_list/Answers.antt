@@ -6,10 +6,10 @@ use Rattle.machines.proofs.Sizes.{list_size}
 use Rattle.filing.proofs.Putting.{told_put, list_put}
 use Rattle.filing.proofs.list_file.write_list.Goals as goal
 
-pub write-act-requires : goal.write-act-requires
-write-act-requires c =
+pub write_act-requires : goal.write_act-requires
+write_act-requires c =
     let out = c.args.output.now in
-    let l₁ = length-set (set out 0 87) 1 c.kind-number.result in
+    let l₁ = length-set (set out 0 87) 1 c.kind_number.result in
     let l₂ = length-set out 0 87 in
     let k = c.loop-act.auto.output in
     let e = c.loop-act.invariant.0 in
@@ -21,15 +21,15 @@ write-act-requires c =
 pub loop-act-preserved : goal.loop-act-preserved
 loop-act-preserved c =
     let out = c.args.output.now in
-    let first = set (set out 0 87) 1 c.kind-number.result in
-    let l₁ = length-set (set out 0 87) 1 c.kind-number.result in
+    let first = set (set out 0 87) 1 c.kind_number.result in
+    let l₁ = length-set (set out 0 87) 1 c.kind_number.result in
     let l₂ = length-set out 0 87 in
     let e = c.loop-act.invariant.0 in
     let n = list_size (kind_number c.args.kind) c.args.acts.now in
     let p = c.requires in
     let room : 2 + 4 * length c.args.acts.now ≤ length first = omega arith in (
       omega arith,
-      c.write-act.ensures
+      c.write_act.ensures
           ∙ told_put first c.loop-act.end c.loop-act.act-index c.args.acts.now c.loop-act.output _
           c.loop-act-test.true e room c.loop-act.invariant.1,
     )
@@ -37,7 +37,7 @@ loop-act-preserved c =
 pub bounds-output-end : goal.bounds-output-end
 bounds-output-end c =
     let out = c.args.output.now in
-    let l₁ = length-set (set out 0 87) 1 c.kind-number.result in
+    let l₁ = length-set (set out 0 87) 1 c.kind_number.result in
     let l₂ = length-set out 0 87 in
     let k = c.loop-act.auto.output in
     let e = c.loop-act.invariant.0 in
@@ -53,4 +53,4 @@ returns c =
     let t = c.loop-act-test.false in
     list_put out (kind_number c.args.kind) c.loop-act.end c.loop-act.act-index c.args.acts.now c.loop-act.output c.requires
     t (omega arith)
-    (c.loop-act.invariant.1 ∙ ap (λ (k : ℕ). put (set (set out 0 87) 1 k) 2 (told_bytes (take c.loop-act.act-index c.args.acts.now))) c.kind-number.ensures)
+    (c.loop-act.invariant.1 ∙ ap (λ (k : ℕ). put (set (set out 0 87) 1 k) 2 (told_bytes (take c.loop-act.act-index c.args.acts.now))) c.kind_number.ensures)

@@ -6,11 +6,11 @@ use Rattle.filing.proofs.Rows.{table_few, tables_size, table_read, file_size}
 use Rattle.filing.proofs.Shown.{file_same}
 use Rattle.filing.proofs.machine_file.machines_length.Goals as goal
 
-pub overflow-add-length : goal.overflow-add-length
-overflow-add-length c =
+pub overflow_add-length : goal.overflow_add-length
+overflow_add-length c =
     let p = c.loop-party.party in
     let b = table_few p c.views.result.now c.views.ensures.few in
-    let r = c.party-length-length.ensures p in
+    let r = c.party_length-length.ensures p in
     let i = c.loop-party.invariant.1 in
     let t = c.loop-party-test.true in
     omega (arith, c.ranges.count)
@@ -24,7 +24,7 @@ loop-party-preserved c =
     let h : p < length ps = omega (arith, c.requires) in
     let is : xs ≡ table_at (tables_in ps) p = table_read ps p c.from.result c.index-parties-from.result xs h c.from.ensures c.index-parties-from.is c.views.ensures.value in
     let b = table_few p xs c.views.ensures.few in
-    let r = c.party-length-length.ensures p in
+    let r = c.party_length-length.ensures p in
     let s = tables_size (tables_in ps) p in
     let q = ap (λ (l : List View). length (table_bytes p l)) is in
     let i = c.loop-party.invariant.0 in

@@ -6,8 +6,8 @@ use Rattle.filing.proofs.Putting.{last_end, last_fits, no_last}
 use Rattle.filing.proofs.machine_file.party_length.Goals as goal
 use Rattle.filing.proofs.machine_file.party_length.Goals.{then-view-ne0, else-view-ne0}
 
-pub overflow-add-length-then-view-ne0 : goal.overflow-add-length-then-view-ne0
-overflow-add-length-then-view-ne0 c =
+pub overflow_add-length-then-view-ne0 : goal.overflow_add-length-then-view-ne0
+overflow_add-length-then-view-ne0 c =
     let xs = c.args.views.now in
     let n = length (each_view last_of 0 (take c.loop-view.view-index xs)) in
     let f = last_fits 0 n c.loop-view.view-index xs _ c.loop-view-test.true (omega arith) c.if-view-ne0.true in

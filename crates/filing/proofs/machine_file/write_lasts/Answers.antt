@@ -10,14 +10,14 @@ use Rattle.filing.proofs.machine_file.write_lasts.Goals.{then-views-number-ne0, 
 pub loop-number-init : goal.loop-number-init
 loop-number-init c = (omega arith, sym (put-none c.args.output.now c.args.at))
 
-pub write-last-requires : goal.write-last-requires
-write-last-requires c =
+pub write_last-requires : goal.write_last-requires
+write_last-requires c =
     let i = c.loop-number in
     let f = last_fits c.args.at i.end i.number c.args.views.now _ c.loop-number-test.true i.invariant.0 c.if-views-number-ne0.true in
     omega (arith, i.auto.output, c.requires.room)
 
-pub overflow-add-end : goal.overflow-add-end
-overflow-add-end c =
+pub overflow_add-end : goal.overflow_add-end
+overflow_add-end c =
     let i = c.loop-number in
     let f = last_fits c.args.at i.end i.number c.args.views.now _ c.loop-number-test.true i.invariant.0 c.if-views-number-ne0.true in
     omega (arith, c.requires.room)
@@ -32,7 +32,7 @@ loop-number-preserved c =
     elim c.if-views-number-ne0.branch [
       | then-views-number-ne0 w ↦ (
         w.end-is ∙ last_end at i.end i.number xs _ t i.invariant.0 w.if-views-number-ne0.true,
-        w.output-is ∙ w.write-last.ensures
+        w.output-is ∙ w.write_last.ensures
             ∙ lasts_put at i.end i.number xs _ t i.invariant.0 w.if-views-number-ne0.true out i.output c.requires.room i.invariant.1,
       )
       | else-views-number-ne0 w ↦

@@ -7,8 +7,8 @@ use Rattle.filing.proofs.Putting.{table_end, table_fits, table_put, file_put}
 use Rattle.filing.proofs.Shown.{file_same}
 use Rattle.filing.proofs.machine_file.write_machines.Goals as goal
 
-pub write-party-end-requires : goal.write-party-end-requires
-write-party-end-requires c =
+pub write_party-end-requires : goal.write_party-end-requires
+write_party-end-requires c =
     let ps = c.args.parties.now in
     let out = c.args.output.now in
     let n = c.args.count in
@@ -40,8 +40,8 @@ loop-party-preserved c =
     let l₃ = length-set out 0 75 in
     let s = file_size c.args.code n (tables_in ps) in
     let room : 3 + length (tables_below (tables_in ps) n) ≤ length first = omega (arith, c.requires.room) in (
-      c.write-party-end.ensures.end ∙ table_end (tables_in ps) c.loop-party.end p n xs t is c.loop-party.invariant.0,
-      c.write-party-end.ensures.output
+      c.write_party-end.ensures.end ∙ table_end (tables_in ps) c.loop-party.end p n xs t is c.loop-party.invariant.0,
+      c.write_party-end.ensures.output
           ∙ table_put (tables_in ps) c.loop-party.end p n xs t is c.loop-party.invariant.0 first c.loop-party.output room c.loop-party.invariant.1,
     )
 

@@ -10,5 +10,5 @@ returns c =
     let at = c.args.at in
     let x = c.args.view in
     move_put out at c.letter_byte.result x.lengthens c.args.number x.act.peer x.act.name
-    c.write-word.new.output c.write-word-2.new.output c.requires c.write-word.ensures c.write-word-2.ensures
+    c.write_word.new.output c.write_word-2.new.output c.requires c.write_word.ensures c.write_word-2.ensures
     ∙ ap (λ (l : ℕ). put out at (l ∷ (word x.lengthens ++ (word c.args.number ++ (x.act.peer ∷ x.act.name ∷ []))))) c.letter_byte.ensures

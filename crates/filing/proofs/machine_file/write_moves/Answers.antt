@@ -13,14 +13,14 @@ loop-number-init c =
     let n = ap length e in
     (omega arith, sym (put-none c.args.output.now c.args.at) ∙ ap (put c.args.output.now c.args.at) (sym e))
 
-pub write-move-requires : goal.write-move-requires
-write-move-requires c =
+pub write_move-requires : goal.write_move-requires
+write_move-requires c =
     let i = c.loop-number in
     let f = move_fits c.args.at i.end i.number c.args.views.now i.auto.number c.loop-number-test.true i.invariant.0 in
     omega (arith, i.auto.output, c.requires.room)
 
-pub overflow-add-end : goal.overflow-add-end
-overflow-add-end c =
+pub overflow_add-end : goal.overflow_add-end
+overflow_add-end c =
     let i = c.loop-number in
     let f = move_fits c.args.at i.end i.number c.args.views.now i.auto.number c.loop-number-test.true i.invariant.0 in
     omega (arith, c.requires.room)
@@ -29,7 +29,7 @@ pub loop-number-preserved : goal.loop-number-preserved
 loop-number-preserved c =
     let i = c.loop-number in (
       move_end c.args.at i.end i.number c.args.views.now i.auto.number c.loop-number-test.true i.invariant.0,
-      c.write-move.ensures
+      c.write_move.ensures
           ∙ moves_put c.args.at i.end i.number c.args.views.now i.auto.number c.loop-number-test.true i.invariant.0
           c.args.output.now i.output _ c.requires.room i.invariant.1,
     )

@@ -17,4 +17,4 @@ returns g c = λ G h P.
     let K = c.add.ensures G h P in
     let L : Lawful G = subst Lawful P.rest.clearly (g.met.C.Channel.lawful b.channel) in
     chart_added G h c.args.id c.args.file.now (lines_in c.read.new.self) c.add.result (g.C.Channel.meaning n.channel) (charts_of n)
-    L c.in-default.ensures P.right K.0 K.1
+    L c.in_default.ensures P.right K.0 K.1

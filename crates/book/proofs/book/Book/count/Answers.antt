@@ -3,7 +3,7 @@ use Rattle.chart.specs.declared.chart.Chart.{Chart}
 use Rattle.book.specs.Past.{charts_of}
 use Rattle.book.proofs.Tables.{counted_more, read_some}
 use Rattle.book.proofs.book.Book.count.Goals as goal
-use Rattle.book.proofs.book.Book.count.Goals.{then-is-some, else-is-some}
+use Rattle.book.proofs.book.Book.count.Goals.{then-is_some, else-is_some}
 
 -- one chart more or none
 abbrev unit : Bool → ℕ
@@ -15,13 +15,13 @@ loop-held-preserved g c =
     let cs : List (Option Chart) = vec_items b.charts in
     let i = c.loop-held.held-index in
     let q : Option Chart = c.held-item.result in
-    let same = c.as-slice-held-items.ensures.value in
+    let same = c.as_slice-held-items.ensures.value in
     let len = ap length same in
     let here : i < length cs = omega arith in
     let is : q ≡ get_or cs i q = c.held-item.is ∙ ap (λ (xs : List (Option Chart)). get_or xs i q) same in
     let more = counted_more i (charts_of b) in
-    let k = ap unit (read_some cs i q here is ∙ sym c.is-some.ensures) in
-    elim c.if-is-some.branch [
-      | then-is-some w ↦ let u = ap unit w.if-is-some.true in (omega (arith, w.count-is), omega (arith, w.count-is))
-      | else-is-some w ↦ let u = ap unit w.if-is-some.false in (omega (arith, w.count-is), omega (arith, w.count-is))
+    let k = ap unit (read_some cs i q here is ∙ sym c.is_some.ensures) in
+    elim c.if-is_some.branch [
+      | then-is_some w ↦ let u = ap unit w.if-is_some.true in (omega (arith, w.count-is), omega (arith, w.count-is))
+      | else-is_some w ↦ let u = ap unit w.if-is_some.false in (omega (arith, w.count-is), omega (arith, w.count-is))
     ]

@@ -6,7 +6,7 @@ use Rattle.book.proofs.book.Book.new.Goals as goal
 pub loop-preserved : goal.loop-preserved
 loop-preserved g c = (
   search rules,
-  c.in-ok-push.ensures.items
+  c.in_ok-push.ensures.items
       ∙ ap (λ (x : List (Option Chart)). x ++ (None ∷ [])) c.loop.invariant.1
       ∙ replicate_more c.loop.counter None,
 )

@@ -6,6 +6,6 @@ use Rattle.book.proofs.book.Book.other_parties.Goals as goal
 pub returns : goal.returns
 returns g c =
     let cs = vec_items c.args.self.now.charts in
-    let same = ap length c.as-slice-slot-items.ensures.value in
+    let same = ap length c.as_slice-slot-items.ensures.value in
     let end : length cs ≤ c.loop-slot.slot-index = omega arith in
     everywhere cs c.loop-slot.slot-index (λ _ d. length d ≡ length (lines_in c.args.chart.now)) end c.loop-slot.invariant

@@ -8,8 +8,8 @@ use Rattle.channel.proofs.line.Line.new.Goals as goal
 pub loop-preserved : goal.loop-preserved
 loop-preserved c = (
   search rules,
-  subst (λ (queues : List Queue). (k : ℕ) → at in_order queued queues k ≡ []) (sym c.in-ok-push.ensures.items)
-      (at_push in_order queued (vec_items c.loop.queues) c.in-ok-new.field-0 c.in-ok-new.ensures c.loop.invariant.1),
+  subst (λ (queues : List Queue). (k : ℕ) → at in_order queued queues k ≡ []) (sym c.in_ok-push.ensures.items)
+      (at_push in_order queued (vec_items c.loop.queues) c.in_ok-new.field-0 c.in_ok-new.ensures c.loop.invariant.1),
 )
 
 pub returns : goal.returns

@@ -13,5 +13,5 @@ returns c = record {
   after =
       ap (meaning_in in_order queued) (with_items_is c.args.self.now.queues c.carry.new.stores (search rules))
       ∙ c.carry.ensures.after
-      ∙ ap (λ (queues : List Queue). tried (is_ok c.carry.result) c.args.act (meaning_in in_order queued queues)) c.deref-mut.ensures.value;
+      ∙ ap (λ (queues : List Queue). tried (is_ok c.carry.result) c.args.act (meaning_in in_order queued queues)) c.deref_mut.ensures.value;
 }

@@ -4,11 +4,11 @@ use Rattle.chart.proofs.Kept.{size_bound}
 use Rattle.chart.proofs.Put.{length_file}
 use Rattle.chart.proofs.chart.Chart.file_length.Goals as goal
 
-pub overflow-mul-result-2 : goal.overflow-mul-result-2
-overflow-mul-result-2 c = let s = c.args.self.now in let b = size_bound (lines_in s) s.lined in let e = c.size.ensures in omega arith
+pub overflow_mul-result-2 : goal.overflow_mul-result-2
+overflow_mul-result-2 c = let s = c.args.self.now in let b = size_bound (lines_in s) s.lined in let e = c.size.ensures in omega arith
 
-pub overflow-add-result-2 : goal.overflow-add-result-2
-overflow-add-result-2 c = let s = c.args.self.now in let b = size_bound (lines_in s) s.lined in let e = c.size.ensures in omega arith
+pub overflow_add-result-2 : goal.overflow_add-result-2
+overflow_add-result-2 c = let s = c.args.self.now in let b = size_bound (lines_in s) s.lined in let e = c.size.ensures in omega arith
 
 pub returns : goal.returns
 returns c = let e = length_file (lines_in c.args.self.now) in omega arith

@@ -5,7 +5,7 @@ use Rattle.lines.specs.Of.{lines_of}
 use Rattle.chart.proofs.Kept.{bare}
 use Rattle.chart.proofs.chart.Chart.new.Goals as goal
 
-pub invariant-of-result : goal.invariant-of-result
-invariant-of-result c =
-    let k : IsChart (lines_of c.in-ok-sheet.sheet) = subst IsChart (sym c.in-ok-sheet.ensures.1) bare in
-    (∣ k.lined ∣₁, (k.paired, (∣ k.playable ∣₁, tt)))
+pub invariant_of-result : goal.invariant_of-result
+invariant_of-result c =
+    let k : IsChart (lines_of c.in_ok-sheet.sheet) = subst IsChart (sym c.in_ok-sheet.ensures.1) bare in
+    record { lined = ∣ k.lined ∣₁; paired = k.paired; playable = ∣ k.playable ∣₁ }

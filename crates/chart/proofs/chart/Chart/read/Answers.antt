@@ -7,17 +7,17 @@ use Rattle.lines.specs.Of.{lines_of}
 use Rattle.files.specs.Answers.{Refused}
 use Rattle.chart.proofs.chart.Chart.read.Goals as goal
 
-pub returns-in-err-check : goal.returns-in-err-check
-returns-in-err-check c =
-    let p = err_from_is_err_and c.from-residual-in-err-check.result c.from-residual-in-err-check.ensures.1 in
-    let f : Fault = c.in-err-check.field-0.0 in
-    let h = c.in-ok-fill.ensures in
-    let r : Refused c.args.file.now f = subst (λ (x : List ℕ). Refused x f) h.1 (c.in-err-check.ensures h.0) in
+pub returns-in_err-check : goal.returns-in_err-check
+returns-in_err-check c =
+    let p = err_from_is_err_and c.from_residual-in_err-check.result c.from_residual-in_err-check.ensures.1 in
+    let f : Fault = c.in_err-check.field-0.0 in
+    let h = c.in_ok-fill.ensures in
+    let r : Refused c.args.file.now f = subst (λ (x : List ℕ). Refused x f) h.1 (c.in_err-check.ensures h.0) in
     rw (p.1, p.2) (r, refl)
 
-pub invariant-of-self-2 : goal.invariant-of-self-2
-invariant-of-self-2 c =
-    let h = c.in-ok-fill.ensures in
+pub invariant_of-self-2 : goal.invariant_of-self-2
+invariant_of-self-2 c =
+    let h = c.in_ok-fill.ensures in
     let k : IsChart (lines_of c.swap.new.x) =
-    subst (λ (x : Sheet). IsChart (lines_of x)) (sym c.swap.ensures.x-after) (c.in-ok-check.ensures h.0) in
-    (∣ k.lined ∣₁, (k.paired, (∣ k.playable ∣₁, tt)))
+    subst (λ (x : Sheet). IsChart (lines_of x)) (sym c.swap.ensures.x_after) (c.in_ok-check.ensures h.0) in
+    record { lined = ∣ k.lined ∣₁; paired = k.paired; playable = ∣ k.playable ∣₁ }

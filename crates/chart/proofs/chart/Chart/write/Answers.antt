@@ -7,8 +7,8 @@ use Rattle.chart.specs.Writing.{put}
 use Rattle.chart.proofs.Put.{length_file, one_line, size-take, lines_put, file_put}
 use Rattle.chart.proofs.chart.Chart.write.Goals as goal
 
-pub write-line-end-requires : goal.write-line-end-requires
-write-line-end-requires c =
+pub write_line-end-requires : goal.write_line-end-requires
+write_line-end-requires c =
     let cl : Lines = lines_in c.args.self.now in
     let p : ℕ = c.loop-party.party in
     let out = c.args.output.now in
@@ -20,7 +20,7 @@ write-line-end-requires c =
     let o = one_line cl p c.line.result.now n c.line.ensures.acts in
     let t = size-take (p + 1) cl in
     let e = c.loop-party.invariant.0 in
-    let d = c.file-length-due.ensures in
+    let d = c.file_length-due.ensures in
     omega arith
 
 pub loop-party-preserved : goal.loop-party-preserved
@@ -35,10 +35,10 @@ loop-party-preserved c =
     let n : p < length cl = omega (arith, c.parties-parties.ensures.count, c.loop-party-test.true) in
     let o = one_line cl p c.line.result.now n c.line.ensures.acts in
     let e = c.loop-party.invariant.0 in
-    let d = c.file-length-due.ensures in
+    let d = c.file_length-due.ensures in
     let room : 2 + (2 * length cl + 3 * size cl) ≤ length first = omega arith in (
-      (let w = c.write-line-end.ensures.end in omega arith),
-      c.write-line-end.ensures.output
+      (let w = c.write_line-end.ensures.end in omega arith),
+      c.write_line-end.ensures.output
           ∙ lines_put first c.loop-party.end p cl c.line.result.now c.loop-party.output n c.line.ensures.acts e room c.loop-party.invariant.1,
     )
 
@@ -53,7 +53,7 @@ bounds-output-end c =
     let f = length_file cl in
     let t = size-take p cl in
     let e = c.loop-party.invariant.0 in
-    let d = c.file-length-due.ensures in
+    let d = c.file_length-due.ensures in
     let n = c.parties-parties.ensures.count in
     omega arith
 
@@ -63,7 +63,7 @@ returns c =
     let p : ℕ = c.loop-party.party in
     let out = c.args.output.now in
     let n = c.parties-parties.ensures.count in
-    let d = c.file-length-due.ensures in
+    let d = c.file_length-due.ensures in
     record {
       room = omega arith;
       answer = d;

@@ -9,10 +9,10 @@ use Rattle.lines.proofs.Sheets.{no_line}
 use Rattle.lines.proofs.Plays.{moved, stood}
 use Rattle.lines.proofs.Progress.{Halted, halts_read, halts_done}
 use Rattle.lines.proofs.sheet.Sheet.advance.Goals as goal
-use Rattle.lines.proofs.sheet.Sheet.advance.Goals.{else-at-line-via-then-at-line+else-can-play, else-at-line-via-else-at-line}
+use Rattle.lines.proofs.sheet.Sheet.advance.Goals.{else-at-line-via-then-at-line+else-can_play, else-at-line-via-else-at-line}
 
-pub returns-then-can-play : goal.returns-then-can-play
-returns-then-can-play c =
+pub returns-then-can_play : goal.returns-then-can_play
+returns-then-can_play c =
     let cl : Lines = lines_of c.args.self.now in
     let done = c.loop-party.done in
     let first = c.args.done.now in
@@ -24,7 +24,7 @@ returns-then-can-play c =
     let at : p ≡ i = sym c.from-index.ensures in
     let l : List Act = c.line-line.result.now in
     let A : Advanced cl done true (set done i (get_or done i 0 + 1)) =
-    moved cl done i l _ (c.line-line.ensures.acts ∙ ap (line cl) at) c.line-line.ensures.short W (omega arith) (omega arith) c.if-can-play.ensures in
+    moved cl done i l _ (c.line-line.ensures.acts ∙ ap (line cl) at) c.line-line.ensures.short W (omega arith) (omega arith) c.if-can_play.ensures in
     subst (λ (x : List ℕ). Advanced cl x true (set done i (get_or done i 0 + 1))) same A
 
 pub loop-party-preserved : goal.loop-party-preserved
@@ -37,7 +37,7 @@ loop-party-preserved c =
     let l : List Act = c.line-line.result.now in
     let e : l ≡ line cl i = c.line-line.ensures.acts ∙ ap (line cl) (sym at) in
     let here : Halted (ready_by cl done) cl done i = elim c.else-at-line.branch [
-      | else-at-line-via-then-at-line+else-can-play w ↦ halts_read (ready_by cl done) cl done i l _ e (omega arith) (sym w.if-can-play.ensures)
+      | else-at-line-via-then-at-line+else-can_play w ↦ halts_read (ready_by cl done) cl done i l _ e (omega arith) (sym w.if-can_play.ensures)
       | else-at-line-via-else-at-line w ↦ halts_done (ready_by cl done) cl done i (let size = ap length e in omega arith)
     ] in
     (c.loop-party.invariant.0, below_more (Halted (ready_by cl done) cl done) p c.loop-party.invariant.1 (subst (Halted (ready_by cl done) cl done) at here))

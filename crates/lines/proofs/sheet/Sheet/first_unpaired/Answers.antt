@@ -9,11 +9,11 @@ use Rattle.lines.proofs.sheet.Sheet.first_unpaired.Goals as goal
 pub loop-number-preserved : goal.loop-number-preserved
 loop-number-preserved c t k h =
     let cl = lines_of c.args.self.now in
-    let here : Message = c.message-at.result in
+    let here : Message = c.message_at.result in
     elim (cases_lt (rank_of t) c.loop-number.number) [
       | inl g ↦ c.loop-number.invariant t k g
       | inr g ↦
-          let n = c.message-at.ensures.number in
-          subst (λ (u : Message). Pairs cl u.sender u.receiver u.name) (sym (rank_same t here k c.message-at.ensures.known (omega arith)))
+          let n = c.message_at.ensures.number in
+          subst (λ (u : Message). Pairs cl u.sender u.receiver u.name) (sym (rank_same t here k c.message_at.ensures.known (omega arith)))
           (c.if-not-pairs.ensures.0 refl)
     ]

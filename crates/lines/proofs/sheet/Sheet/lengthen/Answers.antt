@@ -10,5 +10,5 @@ returns c =
     let j : ℕ = c.from.result in
     let e : s.begun ≡ j + 1 = search rules in
     let h : j < length items = omega (arith, s.lines.ok.0) in
-    let g = grown acts_of items j s.begun c.index-mut.result.now c.push.new.self c.args.act c.push.result h e c.index-mut.ensures.value c.push.ensures in
+    let g = grown acts_of items j s.begun c.index_mut.result.now c.push.new.self c.args.act c.push.result h e c.index_mut.ensures.value c.push.ensures in
     record { test = g.test; parties = refl; lines = g.after }

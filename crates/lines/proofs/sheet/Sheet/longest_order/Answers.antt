@@ -15,7 +15,7 @@ loop-done-preserved c =
     let less = A.less refl in (
       A.within,
       (let b = i.1 in omega arith),
-      c.type-inv.done,
+      c.type_inv.done,
       λ O.
           let g = i.3 O in
           let k = A.on O refl g.0 g.1 in

@@ -11,7 +11,7 @@ use Rattle.views.specs.Building.{Entered}
 use Rattle.views.specs.Tables.{shown, table_of, ShowsBelow}
 use Rattle.views.proofs.Showing.{shows_none, shows_empty, shows_chart, shows_all}
 use Rattle.views.proofs.party_views.PartyViews.build.Goals as goal
-use Rattle.views.proofs.party_views.PartyViews.build.Goals.{in-Some, in-default}
+use Rattle.views.proofs.party_views.PartyViews.build.Goals.{in-Some, in_default}
 
 pub loop-id-init : goal.loop-id-init
 loop-id-init c =
@@ -34,22 +34,22 @@ loop-id-preserved c =
     elim c.match-charts-id.branch [
       | in-Some w ↦
           let e : f id ≡ Some (lines_in w.in-Some.chart) = ap shown (at ∙ w.in-Some.is) in
-          let E : Entered was (line (lines_in w.in-Some.chart) p) _ (vec_items w.enter-line.new.self.views) =
-          subst (λ (l : List Act). Entered was l _ (vec_items w.enter-line.new.self.views)) w.line.ensures.acts w.enter-line.ensures in
+          let E : Entered was (line (lines_in w.in-Some.chart) p) _ (vec_items w.enter_line.new.self.views) =
+          subst (λ (l : List Act). Entered was l _ (vec_items w.enter_line.new.self.views)) w.line.ensures.acts w.enter_line.ensures in
           let n0 = c.loop-id.self.views.ok.0 in
-          let n1 = w.enter-line.new.self.views.ok.0 in
-          let few = w.enter-line.ensures.few in
+          let n1 = w.enter_line.new.self.views.ok.0 in
+          let few = w.enter_line.ensures.few in
           let short = w.line.ensures.short in
-          let r : Next w.enter-line.new.self = (
+          let r : Next w.enter_line.new.self = (
             omega (arith, i.0),
-            subst (λ (k : ℕ). ShowsBelow f p k (vec_items w.enter-line.new.self.views)) (sym (add-one id))
-                (shows_chart f p id was i.1 (lines_in w.in-Some.chart) e _ (one_shl id 8 c.loop-id-test.true) (vec_items w.enter-line.new.self.views) E),
+            subst (λ (k : ℕ). ShowsBelow f p k (vec_items w.enter_line.new.self.views)) (sym (add-one id))
+                (shows_chart f p id was i.1 (lines_in w.in-Some.chart) e _ (one_shl id 8 c.loop-id-test.true) (vec_items w.enter_line.new.self.views) E),
           ) in
           subst Next (sym w.self-is) r
-      | in-default w ↦
+      | in_default w ↦
           let r : Next c.loop-id.self = (
             omega (arith, i.0),
-            subst (λ (k : ℕ). ShowsBelow f p k was) (sym (add-one id)) (shows_empty f p id was i.1 (ap shown (at ∙ w.in-default.is))),
+            subst (λ (k : ℕ). ShowsBelow f p k was) (sym (add-one id)) (shows_empty f p id was i.1 (ap shown (at ∙ w.in_default.is))),
           ) in
           subst Next (sym w.self-is) r
     ]

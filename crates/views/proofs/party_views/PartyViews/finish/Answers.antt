@@ -5,8 +5,8 @@ use Rattle.views.specs.Building.{completing}
 use Rattle.views.proofs.Growing.{remasked_each, remasked_earlier, remasked}
 use Rattle.views.proofs.party_views.PartyViews.finish.Goals as goal
 
-pub invariant-of-self : goal.invariant-of-self
-invariant-of-self c =
+pub invariant_of-self : goal.invariant_of-self
+invariant_of-self c =
     let s = c.args.self.now in
     let x = c.index-view.result.now in
     let y = completing x c.args.bit in

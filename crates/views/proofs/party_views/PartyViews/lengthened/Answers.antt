@@ -23,22 +23,22 @@ returns-in-Some c =
       grown = stays_grown nodes;
     }
 
-pub invariant-of-self : goal.invariant-of-self
-invariant-of-self c =
+pub invariant_of-self : goal.invariant_of-self
+invariant_of-self c =
     let s = c.args.self.now in
     let nodes = s.views.items in
     let x : View = record { lengthens = c.args.at; act = c.args.act; charts = 0; complete = 0 } in
-    let e : vec_items c.push-reserved.new.self ≡ nodes ++ (x ∷ []) = c.push-reserved.ensures.items in
+    let e : vec_items c.push_reserved.new.self ≡ nodes ++ (x ∷ []) = c.push_reserved.ensures.items in
     let n = s.views.ok.0 in
     let pre = c.requires.within in
     let h : c.args.at < length nodes = omega arith in
     let some : 0 < length nodes = let z = s.some in omega arith in
-    let none = c.in-default.ensures in (
-      (let l = c.push-reserved.ensures.len in omega arith),
+    let none = c.in_default.ensures in (
+      (let l = c.push_reserved.ensures.len in omega arith),
       (
-        (let l = c.push-reserved.ensures.len in let r = c.requires.room in omega arith),
+        (let l = c.push_reserved.ensures.len in let r = c.requires.room in omega arith),
         (
-          (let k = c.push-reserved.ensures.capacity in let r = s.room in omega arith),
+          (let k = c.push_reserved.ensures.capacity in let r = s.room in omega arith),
           (
             subst Earlier (sym e) (pushed_earlier nodes some s.earlier s.apart c.args.at h c.args.act x refl refl),
             (
@@ -59,17 +59,17 @@ returns c =
     let s = c.args.self.now in
     let nodes = s.views.items in
     let x : View = record { lengthens = c.args.at; act = c.args.act; charts = 0; complete = 0 } in
-    let e : vec_items c.push-reserved.new.self ≡ nodes ++ (x ∷ []) = c.push-reserved.ensures.items in
+    let e : vec_items c.push_reserved.new.self ≡ nodes ++ (x ∷ []) = c.push_reserved.ensures.items in
     let n = s.views.ok.0 in
     let pre = c.requires.within in
     let h : c.args.at < length nodes = omega arith in
     let some : 0 < length nodes = let z = s.some in omega arith in
-    let none = c.in-default.ensures in
+    let none = c.in_default.ensures in
     let number : c.len-number.result ≡ length nodes = let q = c.len-number.ensures in omega arith in
     record {
-      below = (let l = c.push-reserved.ensures.len in omega arith);
+      below = (let l = c.push_reserved.ensures.len in omega arith);
       is =
-          ap (λ (k : ℕ). get_or (spelled (vec_items c.push-reserved.new.self)) k []) number
+          ap (λ (k : ℕ). get_or (spelled (vec_items c.push_reserved.new.self)) k []) number
           ∙ ap (λ (m : List View). get_or (spelled m) (length nodes) []) e
           ∙ pushed_is nodes some s.earlier s.apart c.args.at h c.args.act x refl refl;
       views = ap spelled e ∙ pushed_noted nodes some s.earlier s.apart c.args.at h c.args.act x refl refl none;

@@ -5,8 +5,8 @@ use Rattle.views.specs.Building.{in_chart}
 use Rattle.views.proofs.Growing.{remasked_each, remasked_earlier, remasked}
 use Rattle.views.proofs.party_views.PartyViews.mark.Goals as goal
 
-pub invariant-of-self : goal.invariant-of-self
-invariant-of-self c =
+pub invariant_of-self : goal.invariant_of-self
+invariant_of-self c =
     let s = c.args.self.now in
     let x = c.index-view.result.now in
     let y = in_chart x c.args.bit in
