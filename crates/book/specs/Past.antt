@@ -3,6 +3,7 @@ use Rattle.std.specs.Prelude.{◌≡◌, ℕ, Bool, List, [], Some, None, vec_it
 use Rattle.acts.specs.declared.Act.{Act}
 use Rattle.acts.specs.Acts.{Lines}
 use Rattle.channel.specs.Meaning.{Meaning}
+use Rattle.channel.specs.declared.channel.Channel as Channel
 use Rattle.chart.specs.declared.chart.Chart.{Chart}
 use Rattle.chart.specs.Of.{lines_in}
 use Rattle.conversation.specs.Conversations.{Reached}
@@ -18,7 +19,7 @@ shown (Some c) = Some (lines_in c)
 abbrev pub table_of : List (Option Chart) → ℕ → Option Lines
 table_of charts i = shown (slice_index_or charts i None)
 
-abbrev pub charts_of : {C : Type 0} → Book C → ℕ → Option Lines
+abbrev pub charts_of : {C : Type 0} {ghosts : Channel.Ghosts C} → Book C ghosts → ℕ → Option Lines
 charts_of b = table_of (vec_items b.charts)
 
 -- every answer of h was right, the book holds what h says, and its channel is clear: it grants from now on what it grants from clear

@@ -25,7 +25,7 @@ returns-in-Some g c = λ G h P.
     let same : c.from-in-Some.result ≡ n = search rules in
     answered G h (add i cl) (Err c.refused-in-Some.result) (refusal OtherParties n) m (charts_of b)
     (c.refused-in-Some.ensures ∙ ap (refusal OtherParties) same)
-    (add_others G h m (charts_of b) P i c.if-id-gt-LAST-ID.false cl free n c.in-Some.ensures)
+    (add_others G h m (charts_of b) P i c.if-id-gt-LAST_ID.false cl free n c.in-Some.ensures)
 
 pub returns-then-most-size : goal.returns-then-most-size
 returns-then-most-size g c = λ G h P.
@@ -43,7 +43,7 @@ returns-then-most-size g c = λ G h P.
     let less : n < size cl = subst (λ (x : ℕ). n < x) c.size.ensures c.if-most-size.true in
     answered G h (add i cl) (Err c.refused-then-most-size.result) (refusal NoConversation n) k (charts_of b)
     c.refused-then-most-size.ensures
-    (add_mute G h m (charts_of b) P i c.if-id-gt-LAST-ID.false cl free c.in_default.ensures c.in_default-equal_chart.ensures
+    (add_mute G h m (charts_of b) P i c.if-id-gt-LAST_ID.false cl free c.in_default.ensures c.in_default-equal_chart.ensures
     (vec_items c.run-most.new.order.acts) n k R.ran R.clear less)
 
 pub returns : goal.returns
@@ -63,7 +63,7 @@ returns g c = λ G h P.
     let R = c.run-most.ensures in
     let E = c.place.ensures in
     let all : size cl ≤ n = subst (λ (x : ℕ). x ≤ n) c.size.ensures c.if-most-size.false in
-    add_granted G h m (charts_of b) P i c.if-id-gt-LAST-ID.false cl free c.in_default.ensures c.in_default-equal_chart.ensures
+    add_granted G h m (charts_of b) P i c.if-id-gt-LAST_ID.false cl free c.in_default.ensures c.in_default-equal_chart.ensures
     (vec_items c.run-most.new.order.acts) n k R.ran (ap g.C.Channel.meaning E.channel ∙ R.clear)
     c.place.result (charts_of after) (begun_own (length cl) cl (lined_from cl ch.lined)) all
     (put-at i slot (Some cl) (charts_of b) (charts_of after) at E.table) E.count
