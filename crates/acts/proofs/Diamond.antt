@@ -1,10 +1,10 @@
 -- What follows from the diamond: the parts of a granted list decide what is granted after it.
-use Rattle.std.proofs.Common.{◌≡◌, ℕ, suc, ◌≤◌, Bool, true, false, ◌≢◌, List, [], ◌∷◌, ◌++◌, length, sym, refl, ap, ◌∙◌, subst, append_assoc, append-nil}
+use Rattle.std.proofs.Common.{◌≡◌, ℕ, suc, Bool, true, ◌≢◌, List, [], ◌∷◌, ◌++◌, length, sym, refl, ap, ◌∙◌, append_assoc}
 use mathlib.Core.List.{cons-ne-nil}
 use Rattle.acts.specs.declared.Act.{Act}
 use Rattle.acts.specs.Acts.{part, SameParts, Beginning}
 use Rattle.acts.specs.Language.{Diamond}
-use Rattle.acts.proofs.Parts.{part_own, part-other, part-++, part-cons, part-uncons, parts_uncons, no_parts, First, first, moved_parts, length_moved}
+use Rattle.acts.proofs.Parts.{part_own, part-other, part-cons, part-uncons, parts_uncons, no_parts, First, first, moved_parts, length_moved}
 
 pub after : (G : List Act → Bool) → Diamond G → (a : Act) → G (a ∷ []) ≡ true → Diamond (λ l. G (a ∷ l))
 after G D a h = record {

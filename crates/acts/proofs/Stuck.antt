@@ -1,13 +1,13 @@
 -- Where no line can go on, nothing granted along those lines goes further.
-use Rattle.std.proofs.Common.{◌≡◌, ℕ, suc, ◌+◌, ◌≤◌, Bool, true, false, ◌≢◌, List, [], ◌∷◌, ◌++◌, length, sym, refl, ap, ◌∙◌, subst, true≢false, append_assoc, append-nil, arith, length-append}
-use mathlib.Core.List.{append_cancel_left, head-eq_of_cons-eq, cons-ne-nil}
+use Rattle.std.proofs.Common.{◌≡◌, ℕ, suc, ◌+◌, ◌≤◌, Bool, true, false, List, [], ◌∷◌, ◌++◌, length, sym, refl, ap, ◌∙◌, subst, true≢false, append_assoc, append-nil, arith, length-append}
+use mathlib.Core.List.{append_cancel_left, head-eq_of_cons-eq}
 use native.Mathlib.Decide.{ℕ_discrete}
 use Rattle.acts.specs.declared.Act.{Act}
 use Rattle.acts.specs.Acts.{part, SameParts, Beginning, Lines, line}
-use Rattle.acts.proofs.Parts.{part_own, part-other, part-++, part-cons, part-uncons, parts_uncons, no_parts, First, first, moved_parts, length_moved}
+use Rattle.acts.proofs.Parts.{part_own, part-other, part-++, parts_uncons, no_parts, First, first, moved_parts, length_moved}
 use Rattle.acts.specs.Language.{Diamond, Longest}
 use Rattle.acts.specs.Theorems.{Stuck}
-use Rattle.acts.proofs.Diamond.{after, after_all, Moves, moves, Completed, complete, parts_decide}
+use Rattle.acts.proofs.Diamond.{after_all, Moves, moves, Completed, complete, parts_decide}
 
 -- lists with the same parts are as long as each other
 pub same_length : (w u : List Act) → SameParts u w → length u ≡ length w

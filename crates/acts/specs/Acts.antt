@@ -1,5 +1,5 @@
 -- Acts, the parts of a list of acts, and how many of a message it sends and receives.
-use Rattle.std.specs.Prelude.{◌≡◌, ℕ, zero, suc, ◌<◌, Bool, true, false, cond, ◌&&◌, ◌≢◌, List, [], ◌∷◌, ◌++◌, ◌==◌, slice_index_or}
+use Rattle.std.specs.Prelude.{◌≡◌, ℕ, suc, ◌<◌, Bool, true, false, cond, ◌&&◌, ◌≢◌, List, [], ◌∷◌, ◌++◌, ◌==◌, slice_index_or}
 use Rattle.acts.specs.declared.Act.{Act}
 use Rattle.acts.specs.declared.Message.{Message}
 use Rattle.acts.specs.declared.Letter.{Letter}

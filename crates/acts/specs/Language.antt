@@ -1,5 +1,5 @@
 -- Languages: which lists of acts are granted, one act after another; and the language of playing orders.
-use Rattle.std.specs.Prelude.{◌≡◌, ℕ, zero, suc, ◌+◌, ◌<◌, ◌≤◌, Bool, true, false, cond, ◌&&◌, ◌||◌, ◌≢◌, List, [], ◌∷◌, ◌++◌, length, drop, Some, None, Option, nat_lt}
+use Rattle.std.specs.Prelude.{◌≡◌, ℕ, zero, suc, ◌+◌, ◌<◌, ◌≤◌, Bool, true, cond, ◌&&◌, ◌||◌, ◌≢◌, List, [], ◌∷◌, ◌++◌, length, drop, Some, None, Option, nat_lt}
 use Rattle.acts.specs.declared.Act.{Act}
 use Rattle.acts.specs.declared.Letter.TheVariants.{Receive}
 use Rattle.acts.specs.Acts.{part, sends, receives, is_send, Lines, line, Along}

@@ -1,5 +1,5 @@
 -- What the laws of a language give, as statements that contracts cite.
-use Rattle.std.specs.Prelude.{◌≡◌, ℕ, ◌≤◌, Bool, true, false, ◌↔◌, List, [], ◌∷◌, ◌++◌, length}
+use Rattle.std.specs.Prelude.{◌≡◌, ℕ, Bool, true, false, ◌↔◌, List, [], ◌∷◌, ◌++◌, length}
 use Rattle.acts.specs.declared.Act.{Act}
 use Rattle.acts.specs.Acts.{part, SameParts, Beginning, Lines, line, Along, Own}
 use Rattle.acts.specs.Language.{Diamond, Causal, plays, Longest, run, size}

@@ -1,3 +1,5 @@
+#![tactic(auto)]
+
 ghost use Rattle.std.specs.Prelude.{◌≡◌, true, ◌↔◌};
 ghost use Rattle.acts.specs.Acts.{message_of, send_of, receive_of};
 ghost use Rattle.acts.specs.Order.{Sooner, OrderIsStrict};

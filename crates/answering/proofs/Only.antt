@@ -1,21 +1,21 @@
 -- The right answer to a call is the computed one.
-use Rattle.std.proofs.Common.{◌≡◌, ℕ, ◌<◌, ◌≤◌, Bool, true, false, cond, not, eqb, ltb, List, [], ◌∷◌, length, is_some, Some, None, Ok, Err, Option, sym, refl, ap, ◌∙◌, subst, inl, inr, append-nil, arith}
-use Rattle.std.proofs.lemmas.Bool.{lt-ltb, le-ltb, ltb-true, eqb-true, eq-eqb, ne_eqb, not_from_false, not-true, eqb-false, cases_lt, false≢true, cases_Bool}
-use Rattle.fault.specs.declared.BookCause.TheVariants.{IdAbove, IdTaken, OtherParties, EqualChart, NoConversation, IdFree}
+use Rattle.std.proofs.Common.{◌≡◌, ℕ, ◌<◌, ◌≤◌, Bool, true, false, cond, not, eqb, ltb, List, [], length, is_some, Some, None, Ok, Option, sym, refl, ap, ◌∙◌, inl, inr, append-nil, arith}
+use Rattle.std.proofs.lemmas.Bool.{lt-ltb, le-ltb, ne_eqb, not_from_false, not-true, eqb-false, cases_lt, false≢true}
+use Rattle.fault.specs.declared.BookCause.TheVariants.{OtherParties, EqualChart, NoConversation}
 use Rattle.acts.specs.declared.Act.{Act}
 use Rattle.acts.specs.Acts.{part, Lines, Own}
 use Rattle.acts.specs.Language.{Longest, run, size}
 use Rattle.acts.proofs.Running.{run-longest, run_stuck, longest_same, full_size, along_size}
 use Rattle.channel.specs.Meaning.{Lawful}
-use Rattle.conversation.specs.Conversations.{Conversation, Talks}
+use Rattle.conversation.specs.Conversations.{Talks}
 use Rattle.conversation.specs.Running.{Ran}
 use Rattle.conversation.proofs.Steps.{ended}
 use Rattle.lines.specs.Charts.{Paired}
-use Rattle.book.specs.History.{Call, add, withdraw, Answer, History, held, put, number}
+use Rattle.book.specs.History.{add, withdraw, Answer, History, held, put, number}
 use Rattle.book.specs.Right.{Right, refusal, HasOtherParties}
 use Rattle.book.specs.Law.{Law}
 use Rattle.answering.specs.Answering.{passes, least, found, parties_of, equal_lines, most_acts, answered}
-use Rattle.answering.proofs.Least.{none-least, Found, found_at, some-least, same_lines, lines_same}
+use Rattle.answering.proofs.Least.{none-least, Found, some-least, same_lines, lines_same}
 
 cond_yes : {X : Type 0} (b : Bool) (x y : X) → b ≡ true → cond b x y ≡ x
 cond_yes b x y e = ap (λ (t : Bool). cond t x y) e

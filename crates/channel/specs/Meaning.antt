@@ -1,5 +1,5 @@
 -- What a channel means, the laws that it keeps, and what its calls do to its meaning.
-use Rattle.std.specs.Prelude.{◌≡◌, ℕ, ◌+◌, ◌-◌, ◌<◌, Bool, true, false, cond, List, [], ◌∷◌, ◌++◌}
+use Rattle.std.specs.Prelude.{◌≡◌, ℕ, ◌+◌, ◌-◌, ◌<◌, Bool, true, cond, List, [], ◌∷◌, ◌++◌}
 use Rattle.acts.specs.declared.Act.{Act}
 use Rattle.acts.specs.declared.Letter.TheVariants.{Receive}
 use Rattle.acts.specs.Acts.{InRange, sends, receives}

@@ -1,3 +1,5 @@
+#![tactic(auto)]
+
 pub mod bag;
 pub mod channel;
 pub mod line;

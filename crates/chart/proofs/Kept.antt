@@ -1,7 +1,7 @@
 -- What a chart's type keeps, got out of its truncations.
-use Rattle.std.proofs.Common.{◌≡◌, ℕ, zero, suc, ◌+◌, ◌*◌, ◌<◌, ◌≤◌, Bool, true, false, List, [], ◌∷◌, length, sym, refl, ap, ◌∙◌, subst, inl, inr, arith, lit≤}
+use Rattle.std.proofs.Common.{◌≡◌, ℕ, zero, suc, ◌*◌, ◌≤◌, List, [], ◌∷◌, length, sym, refl, ap, ◌∙◌, subst, inl, inr, arith, lit≤}
 use mathlib.Core.Logic.{∥∥₁_elim}
-use mathlib.Core.HLevel.{⊥_prop, Unit-prop, ¬_prop, Π_prop, ×_prop}
+use mathlib.Core.HLevel.{⊥_prop, Unit-prop, ¬_prop, ×_prop}
 use native.Mathlib.Bridge.{le_prop}
 use native.Mathlib.Nat.{ℕ_set}
 use Rattle.std.specs.List.{AllByRecursion as All}
@@ -11,7 +11,7 @@ use Rattle.acts.specs.Acts.{InRange, Lines, line, sends, receives}
 use Rattle.acts.specs.Language.{plays, run, size}
 use Rattle.acts.proofs.Playing.{plays_diamond, plays_causal}
 use Rattle.acts.proofs.Running.{run-longest}
-use Rattle.lines.specs.Charts.{Fine, Begun, Lined, Paired, Playable, LongestOrder, IsChart}
+use Rattle.lines.specs.Charts.{Fine, Lined, Paired, Playable, LongestOrder, IsChart}
 use Rattle.files.proofs.Lined.{begun_own, longest-orders, longest_below, playable_from, not_playable_from}
 
 range_prop : (n : ℕ) (a : Act) → IsProp (InRange n a)

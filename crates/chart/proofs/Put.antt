@@ -1,10 +1,10 @@
 -- Bytes put into an output one after another, and how many a file has.
-use Rattle.std.proofs.Common.{◌≡◌, ℕ, zero, suc, ◌+◌, ◌*◌, ◌<◌, ◌≤◌, List, [], ◌∷◌, ◌++◌, length, get_or, take, drop, set, sym, refl, ap, ◌∙◌, subst, append_assoc, add-zero, zero-add, add-one, arith, length-append, length-set}
+use Rattle.std.proofs.Common.{◌≡◌, ℕ, zero, suc, ◌+◌, ◌*◌, ◌<◌, ◌≤◌, List, [], ◌∷◌, ◌++◌, length, get_or, take, drop, set, sym, refl, ap, ◌∙◌, append_assoc, add-zero, zero-add, add-one, arith, length-append, length-set}
 use Rattle.std.proofs.lemmas.List.{length-take-le, length-drop, take_at, drop_at, drop-drop, set_split, take_more, take_all, take-append-drop}
 use Rattle.acts.specs.declared.Act.{Act}
 use Rattle.acts.specs.Acts.{Lines, line}
 use Rattle.acts.specs.Language.{size}
-use Rattle.files.specs.Bytes.{act_bytes, acts_bytes, line_bytes, lines_bytes, front_bytes, file_of}
+use Rattle.files.specs.Bytes.{act_bytes, acts_bytes, line_bytes, lines_bytes, file_of}
 use Rattle.lines.proofs.Sheets.{size_more}
 use Rattle.files.proofs.Stages.{acts_more, lines_more}
 use Rattle.chart.specs.Writing.{put}

@@ -1,5 +1,5 @@
 -- How far a file has been read: the stage, and the place behind its commands.
-use Rattle.std.proofs.Common.{◌≡◌, ℕ, ◌+◌, ◌-◌, ◌<◌, ◌≤◌, Bool, true, false, cond, not, eqb, ltb, List, [], ◌∷◌, ◌++◌, length, get_or, drop, Some, None, Option, sym, refl, ap, ◌∙◌, subst, inl, inr, append-nil, arith, length-append}
+use Rattle.std.proofs.Common.{◌≡◌, ℕ, ◌+◌, ◌<◌, ◌≤◌, Bool, true, false, cond, eqb, List, [], ◌∷◌, ◌++◌, length, get_or, drop, Some, None, sym, refl, ap, ◌∙◌, subst, inl, append-nil, arith, length-append}
 use Rattle.std.specs.List.{AllByRecursion as All}
 use Rattle.std.proofs.lemmas.List.{drop-drop, length-drop, drop_all, drop_more}
 use Rattle.std.proofs.lemmas.Bool.{eqb-true, ltb-false}
@@ -8,7 +8,7 @@ use Rattle.fault.specs.declared.FileCause.TheVariants.{GoesOn}
 use Rattle.lines.specs.Charts.{Lined, newest}
 use Rattle.files.specs.Bytes.{front_bytes, file_of}
 use Rattle.files.specs.Rules.{Stage, Sound, so_far, Row, first, rows, wrong, operands, grown}
-use Rattle.files.specs.Answers.{Stops, IsGoingOn, BadFile, stops, goes_on, file_fault}
+use Rattle.files.specs.Answers.{BadFile, stops, goes_on, file_fault}
 use Rattle.files.proofs.Stages.{Grew, grew, Closed, closed}
 use Rattle.chart.specs.Steps.{wrong_as, Took}
 

@@ -1,7 +1,6 @@
 -- One command of a chart file, taken from the place where it is due.
 use Rattle.std.specs.Prelude.{◌≡◌, ℕ, ◌+◌, Bool, List, length, drop, Some, None, Option, Result, MatchResult, ◌==◌, slice_index}
 use Rattle.fault.specs.declared.Fault.{Fault}
-use Rattle.acts.specs.Acts.{Lines}
 use Rattle.lines.specs.declared.sheet.Sheet.{Sheet}
 use Rattle.lines.specs.Charts.{newest}
 use Rattle.lines.specs.Of.{lines_of}

@@ -1,3 +1,5 @@
+#![tactic(auto)]
+
 pub mod chart;
 mod cursor;
 mod reader;

@@ -1,4 +1,6 @@
 // Reads a session from standard input and prints its text, over a channel that delivers messages in any order.
+#![tactic(auto)]
+
 use channel::bag::Bag;
 use input::front;
 use session::session::session_text;

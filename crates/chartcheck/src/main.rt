@@ -1,4 +1,6 @@
 // Reads one chart file from standard input and says what it holds, or what spoils it.
+#![tactic(auto)]
+
 use anyhow::anyhow;
 use channel::bag::Bag;
 use channel::line::Line;

@@ -1,4 +1,6 @@
 // Reads a session from standard input and prints its text, over a channel that keeps the order of messages.
+#![tactic(auto)]
+
 use channel::line::Line;
 use input::front;
 use session::session::session_text;

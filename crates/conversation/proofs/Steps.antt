@@ -1,21 +1,21 @@
 -- A chart's lines run over a channel: one act, no act, the end.
-use Rattle.std.proofs.Common.{◌≡◌, ℕ, ◌+◌, ◌-◌, ◌<◌, ◌≤◌, Bool, true, false, cond, ◌&&◌, eqb, ltb, List, [], ◌∷◌, ◌++◌, length, get_or, set, replicate, sym, refl, ap, ◌∙◌, subst, append_assoc, append-nil, arith}
+use Rattle.std.proofs.Common.{◌≡◌, ℕ, ◌+◌, ◌<◌, ◌≤◌, Bool, true, false, cond, ◌&&◌, eqb, List, [], ◌∷◌, ◌++◌, length, get_or, set, replicate, sym, refl, ap, ◌∙◌, subst, append_assoc, append-nil, arith}
 use Rattle.std.proofs.lemmas.Bool.{and_parts, eqb-true, lt-ltb}
 use Rattle.acts.specs.declared.Act.{Act}
 use Rattle.acts.specs.declared.Letter.{Letter}
 use Rattle.acts.specs.declared.Letter.TheVariants.{Send, Receive}
-use Rattle.acts.specs.Acts.{part, sends, receives, send_of, receive_of, is_receive, tally, Quiet, Lines, line, Own, Along}
-use Rattle.acts.specs.Language.{Longest, size}
+use Rattle.acts.specs.Acts.{part, sends, receives, send_of, receive_of, is_receive, tally, Quiet, Lines, line, Own}
+use Rattle.acts.specs.Language.{Longest}
 use Rattle.acts.specs.Theorems.{Stuck}
 use Rattle.acts.proofs.Counts.{tally-part, sender, receiver}
 use Rattle.acts.proofs.Running.{full_parts, full_size}
 use Rattle.acts.proofs.Stuck.{stuck_longest}
 use Rattle.lines.specs.Charts.{Paired}
-use Rattle.lines.specs.Progress.{Within, so_far}
+use Rattle.lines.specs.Progress.{Within}
 use Rattle.lines.proofs.Progress.{Halted, halts_read, within_more, parts_more, read_next, less_left, parts_along, parts_none}
 use Rattle.lines.proofs.Tallies.{tally-push}
 use Rattle.channel.specs.Meaning.{Meaning, Lawful, cleared, carried, tried}
-use Rattle.conversation.specs.Conversations.{Conversation, Reached}
+use Rattle.conversation.specs.Conversations.{Reached}
 use Rattle.conversation.specs.Running.{Going, Moved, Stood, Ran, noted}
 
 -- clear brings a channel to the empty list

@@ -1,5 +1,5 @@
 -- Conversations of a chart over a channel.
-use Rattle.std.specs.Prelude.{◌≡◌, ℕ, ◌+◌, Bool, true, List, [], ◌∷◌, ◌++◌}
+use Rattle.std.specs.Prelude.{◌≡◌, ℕ, ◌+◌, Bool, true, List, ◌++◌}
 use Rattle.acts.specs.declared.Act.{Act}
 use Rattle.acts.specs.Acts.{part, sends, receives, Quiet, Lines, line}
 use Rattle.channel.specs.Meaning.{Meaning}

@@ -1,2 +1,4 @@
+#![tactic(auto)]
+
 pub mod order;
 pub mod run;

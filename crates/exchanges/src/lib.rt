@@ -1,3 +1,5 @@
+#![tactic(auto)]
+
 ghost use Rattle.exchanges.specs.Files.{WorkedExchanges};
 
 // The worked exchanges have the answers of the table, by computing the rules.

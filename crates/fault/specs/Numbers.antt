@@ -1,14 +1,9 @@
 -- The number of every refusal.
 use Rattle.std.specs.Prelude.{ℕ}
-use Rattle.fault.specs.declared.FileCause.{FileCause}
 use Rattle.fault.specs.declared.FileCause.TheVariants.{Ends, NotAllowed, OutOfRange, LineFull, GoesOn}
-use Rattle.fault.specs.declared.ChartCause.{ChartCause}
 use Rattle.fault.specs.declared.ChartCause.TheVariants.{NotPaired, NotPlayable}
-use Rattle.fault.specs.declared.ChannelCause.{ChannelCause}
 use Rattle.fault.specs.declared.ChannelCause.TheVariants.{Denied}
-use Rattle.fault.specs.declared.BookCause.{BookCause}
 use Rattle.fault.specs.declared.BookCause.TheVariants.{InPlay, IdAbove, IdTaken, OtherParties, EqualChart, NoConversation, IdFree, NothingHeld, TooManyTuples, OutputShort, NoVerdict, AtRest, OperandOutOfRange, NoView, NotAtEnd}
-use Rattle.fault.specs.declared.SessionCause.{SessionCause}
 use Rattle.fault.specs.declared.SessionCause.TheVariants.{UnknownLetter, CutShort}
 use Rattle.fault.specs.declared.Layer.{Layer}
 use Rattle.fault.specs.declared.Layer.TheVariants.{File, Chart, Channel, Book, Session}

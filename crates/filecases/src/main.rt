@@ -1,6 +1,8 @@
 // Reads files as lines of hexadecimal digits from standard input, and prints a line for each: the
 // refusal's number and place, or 0 and the length of a chart's file that is written as its very
 // bytes.
+#![tactic(auto)]
+
 use chart::chart::Chart;
 use std::alloc::{AllocError, Global};
 

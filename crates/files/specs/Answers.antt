@@ -1,5 +1,5 @@
 -- The one answer to a file, said of the file: it is a chart's bytes, or something spoils it first.
-use Rattle.std.specs.Prelude.{◌≡◌, ℕ, ◌<◌, List, [], ◌∷◌, ◌++◌, length, Some, Ok, Err, Result}
+use Rattle.std.specs.Prelude.{◌≡◌, ℕ, ◌<◌, List, ◌∷◌, ◌++◌, length, Some, Ok, Err, Result}
 use Rattle.fault.specs.declared.Fault.{Fault}
 use Rattle.fault.specs.declared.FileCause.{FileCause}
 use Rattle.fault.specs.declared.FileCause.TheVariants.{GoesOn}

@@ -1,5 +1,5 @@
 -- Which command may stand where, and what is wrong with one: the rules of the chart file.
-use Rattle.std.specs.Prelude.{◌≡◌, ℕ, pred, ◌+◌, Bool, true, false, cond, not, ◌&&◌, ◌||◌, ◌⊎◌, List, [], ◌∷◌, ◌++◌, length, Some, None, Option, ◌==◌, nat_le, nat_lt, slice_index}
+use Rattle.std.specs.Prelude.{◌≡◌, ℕ, pred, ◌+◌, Bool, true, cond, not, ◌&&◌, ◌||◌, ◌⊎◌, List, [], ◌∷◌, ◌++◌, length, Some, None, Option, ◌==◌, nat_le, nat_lt, slice_index}
 use Rattle.fault.specs.declared.Fault.{Fault}
 use Rattle.fault.specs.declared.FileCause.{FileCause}
 use Rattle.fault.specs.declared.FileCause.TheVariants.{Ends, NotAllowed, OutOfRange, LineFull}

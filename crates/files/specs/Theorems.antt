@@ -4,7 +4,7 @@ use Rattle.fault.specs.declared.Fault.{Fault}
 use Rattle.acts.specs.Acts.{Lines}
 use Rattle.lines.specs.Charts.{IsChart}
 use Rattle.files.specs.Bytes.{file_of}
-use Rattle.files.specs.Answers.{ChartFile, Answers}
+use Rattle.files.specs.Answers.{Answers}
 use Rattle.files.specs.Reading.{reading}
 
 -- every file has an answer, which `reading` computes, and no other

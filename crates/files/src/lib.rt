@@ -1,3 +1,5 @@
+#![tactic(auto)]
+
 ghost use Rattle.files.specs.Theorems.{EveryFile, RoundTrip, LongFiles};
 
 // Every file is either the bytes of one chart, or has exactly one fault.

@@ -1,5 +1,5 @@
 -- Messages by their numbers.
-use Rattle.std.proofs.Common.{◌≡◌, ℕ, ◌+◌, ◌<◌, sym, ap, ◌∙◌, arith}
+use Rattle.std.proofs.Common.{◌≡◌, arith}
 use Rattle.acts.specs.declared.Message.{Message}
 use Rattle.lines.specs.Charts.{Known, rank_of}
 

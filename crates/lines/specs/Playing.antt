@@ -1,7 +1,7 @@
 -- A run along the lines without a channel: how far it has come.
 use Rattle.std.specs.Prelude.{◌≡◌, ℕ, ◌<◌, Bool, true, false, ◌||◌, List, [], ◌∷◌, ◌++◌, nat_lt}
 use Rattle.acts.specs.declared.Act.{Act}
-use Rattle.acts.specs.Acts.{part, sends, receives, is_send, Lines, line, Own}
+use Rattle.acts.specs.Acts.{part, sends, receives, is_send, Lines, Own}
 use Rattle.acts.specs.Language.{plays}
 use Rattle.acts.specs.Theorems.{Stuck}
 use Rattle.lines.specs.Progress.{Within, so_far, left}

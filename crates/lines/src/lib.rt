@@ -1,3 +1,5 @@
+#![tactic(auto)]
+
 pub mod counting;
 pub mod party_line;
 pub mod sheet;

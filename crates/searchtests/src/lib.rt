@@ -1,3 +1,5 @@
+#![tactic(auto)]
+
 pub mod judging;
 pub mod lone;
 #[cfg(test)]

@@ -1,5 +1,5 @@
 -- A file is read, and its chart added: the answer is the computed one.
-use Rattle.std.proofs.Common.{◌≡◌, ℕ, Bool, List, length, Ok, Err, Option, Result, sym, ap, ◌∙◌, subst}
+use Rattle.std.proofs.Common.{◌≡◌, ℕ, Bool, List, length, Ok, Err, Option, Result, ap, ◌∙◌, subst}
 use Rattle.fault.specs.declared.Fault.{Fault}
 use Rattle.acts.specs.declared.Act.{Act}
 use Rattle.acts.specs.Acts.{Lines}
@@ -8,14 +8,14 @@ use Rattle.files.specs.Answers.{ChartFile, Refused}
 use Rattle.files.specs.Reading.{reading}
 use Rattle.files.proofs.Lined.{begun_own}
 use Rattle.files.proofs.Matching.{only_answer}
-use Rattle.book.specs.History.{add, withdraw, Answer, History, then, held}
+use Rattle.book.specs.History.{add, Answer, History, then, held}
 use Rattle.book.specs.Right.{Right, AllRight}
 use Rattle.book.specs.Past.{Past}
 use Rattle.book.proofs.Laws.{law}
 use Rattle.answering.specs.Answering.{answered}
-use Rattle.answering.proofs.Only.{only_add, only_withdraw}
+use Rattle.answering.proofs.Only.{only_add}
 use Rattle.session.specs.Lines.{answer_text}
-use Rattle.session.specs.Sessions.{adds, called}
+use Rattle.session.specs.Sessions.{adds}
 use Rattle.session.specs.Stepping.{Added}
 
 pub refused_added : (G : List Act → Bool) (h : History) (id : ℕ) (file : List ℕ) (f : Fault) (m : Meaning) (s : ℕ → Option Lines)

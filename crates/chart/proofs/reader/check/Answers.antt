@@ -1,9 +1,9 @@
-use Rattle.std.proofs.Common.{◌≡◌, ℕ, ◌<◌, ◌≤◌, length, sym, refl, ap, ◌∙◌, subst, arith, rules}
+use Rattle.std.proofs.Common.{◌≡◌, ℕ, ◌<◌, length, refl, subst, arith}
 use Rattle.acts.specs.Acts.{Lines}
 use Rattle.acts.specs.Language.{size}
-use Rattle.lines.specs.Charts.{Lined, LongestOrder, Paired, KnownPaired}
+use Rattle.lines.specs.Charts.{LongestOrder}
 use Rattle.lines.specs.Of.{lines_of}
-use Rattle.files.specs.Answers.{Refused, not_playable}
+use Rattle.files.specs.Answers.{not_playable}
 use Rattle.files.proofs.Lined.{begun_own, all_paired, playable_from, longest_below}
 use Rattle.chart.proofs.reader.check.Goals as goal
 

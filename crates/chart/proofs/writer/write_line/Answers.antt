@@ -1,5 +1,4 @@
-use Rattle.std.proofs.Common.{◌≡◌, ℕ, ◌+◌, ◌*◌, ◌≤◌, List, length, set, sym, refl, ◌∙◌, arith, length-set}
-use Rattle.std.proofs.lemmas.List.{take_all}
+use Rattle.std.proofs.Common.{◌+◌, ◌*◌, ◌≤◌, length, set, sym, ◌∙◌, arith, length-set}
 use Rattle.chart.proofs.Put.{put-none, acts_put, line-put}
 use Rattle.chart.proofs.writer.write_line.Goals as goal
 

@@ -1,14 +1,14 @@
-use Rattle.std.proofs.Common.{◌≡◌, ℕ, ◌+◌, ◌<◌, ◌≤◌, Bool, List, [], ◌∷◌, ◌++◌, length, replicate, vec_items, sym, refl, ap, ◌∙◌, subst, arith, lit≤}
+use Rattle.std.proofs.Common.{◌≡◌, ℕ, ◌+◌, ◌<◌, Bool, List, [], ◌∷◌, ◌++◌, length, replicate, vec_items, sym, refl, ap, ◌∙◌, subst, arith, lit≤}
 use Rattle.std.proofs.lemmas.List.{length_push}
 use Rattle.acts.specs.declared.Act.{Act}
 use Rattle.acts.specs.Acts.{Lines}
 use Rattle.lines.proofs.Progress.{within_none}
 use Rattle.lines.specs.Charts.{Lined}
 use Rattle.files.proofs.Lined.{begun_own}
-use Rattle.channel.specs.Meaning.{Meaning, Lawful, cleared}
+use Rattle.channel.specs.Meaning.{Meaning, Lawful}
 use Rattle.chart.specs.Of.{lines_in}
 use Rattle.chart.proofs.Kept.{lined_from}
-use Rattle.conversation.specs.Running.{Going, Moved, Stood, Ran}
+use Rattle.conversation.specs.Running.{Going, Ran}
 use Rattle.conversation.proofs.Steps.{outset, noted_more, ended, cleared_same}
 use Rattle.conversation.proofs.run.run.Goals as goal
 

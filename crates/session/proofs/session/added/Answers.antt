@@ -1,4 +1,4 @@
-use Rattle.std.proofs.Common.{◌≡◌, sym, subst}
+use Rattle.std.proofs.Common.{subst}
 use Rattle.channel.specs.Meaning.{Lawful}
 use Rattle.chart.specs.Of.{lines_in}
 use Rattle.book.specs.Past.{charts_of}

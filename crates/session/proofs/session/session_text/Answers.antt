@@ -1,4 +1,4 @@
-use Rattle.std.proofs.Common.{◌≡◌, ℕ, ◌-◌, ◌<◌, Bool, List, length, string_bytes, sym, ap, ◌∙◌, subst, arith}
+use Rattle.std.proofs.Common.{Bool, List, string_bytes, sym, ap, ◌∙◌, subst, arith}
 use Rattle.acts.specs.declared.Act.{Act}
 use Rattle.book.specs.History.{start}
 use Rattle.book.specs.Past.{Past, charts_of}

@@ -1,4 +1,4 @@
-use Rattle.std.proofs.Common.{◌≡◌, arith}
+use Rattle.std.proofs.Common.{arith}
 use Rattle.chart.specs.Of.{lines_in}
 use Rattle.chart.proofs.Kept.{size_bound}
 use Rattle.chart.proofs.Put.{length_file}

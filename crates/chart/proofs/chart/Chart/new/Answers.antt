@@ -1,5 +1,4 @@
-use Rattle.std.proofs.Common.{◌≡◌, List, [], ◌∷◌, sym, subst}
-use Rattle.acts.specs.Acts.{Lines}
+use Rattle.std.proofs.Common.{sym, subst}
 use Rattle.lines.specs.Charts.{IsChart}
 use Rattle.lines.specs.Of.{lines_of}
 use Rattle.chart.proofs.Kept.{bare}

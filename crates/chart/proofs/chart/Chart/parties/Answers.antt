@@ -1,4 +1,4 @@
-use Rattle.std.proofs.Common.{◌≡◌, ◌≤◌, length, arith}
+use Rattle.std.proofs.Common.{arith}
 use Rattle.lines.specs.Charts.{Lined}
 use Rattle.chart.specs.Of.{lines_in}
 use Rattle.chart.proofs.Kept.{lined_from}

@@ -1,4 +1,4 @@
-use Rattle.std.proofs.Common.{◌≡◌, ℕ, List, sym, refl, subst}
+use Rattle.std.proofs.Common.{ℕ, List, sym, refl, subst}
 use Rattle.std.proofs.lemmas.Result.{err_from_is_err_and}
 use Rattle.fault.specs.declared.Fault.{Fault}
 use Rattle.lines.specs.declared.sheet.Sheet.{Sheet}

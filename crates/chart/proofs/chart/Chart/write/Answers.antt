@@ -1,4 +1,4 @@
-use Rattle.std.proofs.Common.{◌≡◌, ℕ, ◌+◌, ◌*◌, ◌<◌, ◌≤◌, List, length, take, set, sym, refl, ap, ◌∙◌, arith, length-set}
+use Rattle.std.proofs.Common.{ℕ, ◌+◌, ◌*◌, ◌<◌, ◌≤◌, length, take, set, ap, ◌∙◌, arith, length-set}
 use Rattle.acts.specs.Acts.{Lines}
 use Rattle.acts.specs.Language.{size}
 use Rattle.files.specs.Bytes.{lines_bytes}

@@ -1,6 +1,6 @@
-use Rattle.std.proofs.Common.{◌≡◌, ℕ, ◌+◌, ◌<◌, length, vec_items, sym, refl, ap, ◌∙◌, arith, rules}
-use Rattle.lines.specs.Of.{acts_of, lines_of}
-use Rattle.lines.proofs.Sheets.{Grown, grown}
+use Rattle.std.proofs.Common.{◌≡◌, ℕ, ◌+◌, ◌<◌, length, vec_items, refl, arith, rules}
+use Rattle.lines.specs.Of.{acts_of}
+use Rattle.lines.proofs.Sheets.{grown}
 use Rattle.lines.proofs.sheet.Sheet.lengthen.Goals as goal
 
 pub returns : goal.returns

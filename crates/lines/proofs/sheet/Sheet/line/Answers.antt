@@ -1,4 +1,4 @@
-use Rattle.std.proofs.Common.{◌≡◌, ℕ, ◌≤◌, length, vec_items, sym, ap, ◌∙◌, arith, lit≤, rules}
+use Rattle.std.proofs.Common.{◌≡◌, ◌≤◌, length, vec_items, sym, ap, ◌∙◌, arith, lit≤, rules}
 use Rattle.acts.specs.Acts.{line}
 use Rattle.lines.specs.Of.{acts_of, lines_of}
 use Rattle.lines.proofs.Sheets.{read_line, no_line}

@@ -1,11 +1,9 @@
-use Rattle.std.proofs.Common.{◌≡◌, ℕ, ◌+◌, ◌≤◌, List, [], ◌∷◌, ◌++◌, length, sym, refl, ap, ◌∙◌, subst, arith}
+use Rattle.std.proofs.Common.{ℕ, ◌+◌, [], ◌∷◌, ◌++◌, refl, ap, ◌∙◌, subst, arith}
 use Rattle.std.proofs.lemmas.List.{length_push}
-use Rattle.acts.specs.declared.Act.{Act}
 use Rattle.acts.specs.Acts.{Lines}
 use Rattle.lines.specs.Charts.{LongestOrder}
 use Rattle.lines.specs.Of.{lines_of}
-use Rattle.lines.specs.Playing.{Advanced}
-use Rattle.lines.proofs.Plays.{outset, ended}
+use Rattle.lines.proofs.Plays.{ended}
 use Rattle.lines.proofs.sheet.Sheet.longest_order.Goals as goal
 
 pub loop-done-preserved : goal.loop-done-preserved

@@ -1,4 +1,4 @@
-use Rattle.std.proofs.Common.{◌≡◌, List, [], ◌∷◌, ◌++◌, map, replicate, vec_items, sym, ap, ◌∙◌, rules}
+use Rattle.std.proofs.Common.{List, [], ◌∷◌, ◌++◌, map, replicate, vec_items, ap, ◌∙◌, rules}
 use Rattle.std.proofs.lemmas.List.{map_push, replicate_more}
 use Rattle.acts.specs.declared.Act.{Act}
 use Rattle.lines.specs.Of.{acts_of}

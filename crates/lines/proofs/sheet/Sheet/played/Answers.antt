@@ -1,6 +1,5 @@
-use Rattle.std.proofs.Common.{◌≡◌, ℕ, ◌≤◌, List, [], length, get_or, take, vec_items, sym, ap, ◌∙◌, arith}
+use Rattle.std.proofs.Common.{◌≡◌, ℕ, [], get_or, take, vec_items, sym, ap, ◌∙◌, arith}
 use Rattle.std.proofs.lemmas.List.{take_all}
-use Rattle.acts.specs.declared.Act.{Act}
 use Rattle.acts.specs.Acts.{line}
 use Rattle.lines.specs.Of.{acts_of, lines_of}
 use Rattle.lines.proofs.Sheets.{no_line}
