@@ -1,5 +1,5 @@
 -- A channel that denies every act is lawful: it grants no list with an act.
-use Rattle.std.specs.Prelude.{◌≡◌, true, false, List, [], ◌∷◌, ◌++◌, ◌≢◌, refl}
+use Rattle.std.specs.Prelude.{◌≡◌, true, List, [], ◌∷◌, ◌++◌, ◌≢◌, refl}
 use Rattle.std.proofs.lemmas.Bool.{false≢true}
 use Rattle.acts.specs.declared.Act.{Act}
 use Rattle.channel.specs.Meaning.{Lawful}

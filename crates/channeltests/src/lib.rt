@@ -1,3 +1,5 @@
+#![tactic(auto)]
+
 pub mod mute;
 #[cfg(test)]
 mod tests;
