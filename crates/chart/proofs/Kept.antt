@@ -4,7 +4,7 @@ use mathlib.Core.Logic.{∥∥₁_elim}
 use mathlib.Core.HLevel.{⊥_prop, Unit-prop, ¬_prop, ×_prop}
 use native.Mathlib.Bridge.{le_prop}
 use native.Mathlib.Nat.{ℕ_set}
-use Rattle.std.specs.List.{AllByRecursion as All}
+use Rattle.std.specs.List.{AllByRecursion}
 use Rattle.std.proofs.lemmas.Bool.{cases_lt}
 use Rattle.acts.specs.declared.Act.{Act}
 use Rattle.acts.specs.Acts.{InRange, Lines, line, sends, receives}
@@ -22,7 +22,7 @@ range_prop n a x y i = record {
   name = le_prop x.name y.name i;
 }
 
-all_prop : (P : Act → Type 0) → ((a : Act) → IsProp (P a)) → (l : List Act) → IsProp (All P l)
+all_prop : (P : Act → Type 0) → ((a : Act) → IsProp (P a)) → (l : List Act) → IsProp (AllByRecursion P l)
 all_prop P h [] = Unit-prop
 all_prop P h (a ∷ l) = ×_prop (h a) (all_prop P h l)
 

@@ -1,6 +1,6 @@
 -- How far a file has been read: the stage, and the place behind its commands.
 use Rattle.std.proofs.Common.{◌≡◌, ℕ, ◌+◌, ◌<◌, ◌≤◌, Bool, true, false, cond, eqb, List, [], ◌∷◌, ◌++◌, length, get_or, drop, Some, None, sym, refl, ap, ◌∙◌, subst, inl, append-nil, arith, length-append}
-use Rattle.std.specs.List.{AllByRecursion as All}
+use Rattle.std.specs.List.{AllByRecursion}
 use Rattle.std.proofs.lemmas.List.{drop-drop, length-drop, drop_all, drop_more}
 use Rattle.std.proofs.lemmas.Bool.{eqb-true, ltb-false}
 use Rattle.fault.specs.declared.Fault.{Fault}
@@ -25,12 +25,12 @@ begun s file n c = record {
 }
 
 -- where no row answers, none applies
-all_off : (rs : List Row) → first rs ≡ None → All (λ r. r.when ≡ false) rs
+all_off : (rs : List Row) → first rs ≡ None → AllByRecursion (λ r. r.when ≡ false) rs
 all_off [] e = tt
 all_off (r ∷ rs) e = go r.when refl e (all_off rs)
   where
-    go : (b : Bool) → r.when ≡ b → cond b (Some r.fault) (first rs) ≡ None → (first rs ≡ None → All (λ r. r.when ≡ false) rs)
-        → All (λ r. r.when ≡ false) (r ∷ rs)
+    go : (b : Bool) → r.when ≡ b → cond b (Some r.fault) (first rs) ≡ None → (first rs ≡ None → AllByRecursion (λ r. r.when ≡ false) rs)
+        → AllByRecursion (λ r. r.when ≡ false) (r ∷ rs)
     go true h k f = let z : ◌≡◌ {A = ℕ} 0 1 = cc in absurd (omega arith)
     go false h k f = (h, f k)
 

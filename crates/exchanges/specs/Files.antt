@@ -1,6 +1,6 @@
 -- Worked chart files with their answers, as a table.
 use Rattle.std.specs.Prelude.{◌≡◌, ℕ, List, [], ◌∷◌, Ok, Err, Result}
-use Rattle.std.specs.List.{AllByRecursion as All}
+use Rattle.std.specs.List.{AllByRecursion}
 use Rattle.fault.specs.declared.Fault.{Fault}
 use Rattle.fault.specs.Numbers.{number_of}
 use Rattle.acts.specs.Acts.{Lines}
@@ -42,4 +42,4 @@ worked =
     ∷ []
 
 abbrev pub WorkedExchanges : Type 0
-WorkedExchanges = All (λ x. Refuses (reading x.file) x.number x.place) worked
+WorkedExchanges = AllByRecursion (λ x. Refuses (reading x.file) x.number x.place) worked

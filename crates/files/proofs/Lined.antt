@@ -1,6 +1,6 @@
 -- What lines of two to six parties keep: their own acts, the pairing of all messages, and how far they can be played.
 use Rattle.std.proofs.Common.{◌≡◌, ℕ, suc, ◌<◌, ◌≤◌, Bool, true, cond, ◌&&◌, eqb, List, [], ◌∷◌, length, sym, refl, ap, ◌∙◌, inl, inr, arith}
-use Rattle.std.specs.List.{AllByRecursion as All}
+use Rattle.std.specs.List.{AllByRecursion}
 use Rattle.std.proofs.lemmas.Bool.{eqb-true, and_parts, cases_lt, cases_Bool}
 use Rattle.acts.specs.declared.Act.{Act}
 use Rattle.acts.specs.Acts.{InRange, part, tally, send_of, receive_of, is_send, is_receive, sends, receives, Lines, line, Own}
@@ -14,7 +14,7 @@ use Rattle.lines.specs.Charts.{Begun, Lined, Pairs, Paired, KnownPaired, FirstUn
 abbrev pub RightAct : ℕ → ℕ → Act → Type 0
 RightAct n p a = InRange n a × (a.party ≡ p)
 
-own-all : (n p : ℕ) (l : List Act) → All (RightAct n p) l → part p l ≡ l
+own-all : (n p : ℕ) (l : List Act) → AllByRecursion (RightAct n p) l → part p l ≡ l
 own-all n p [] h = refl
 own-all n p (a ∷ l) h = part_own p a l h.0.1 ∙ ap (λ (x : List Act). a ∷ x) (own-all n p l h.1)
 
@@ -23,7 +23,7 @@ begun_own n c b p = own-all n p (line c p) (b.fine p).acts
 
 -- a test that no act on the line passes counts nothing
 tally-none : (n p : ℕ) (t : Act → Bool) → ((a : Act) → RightAct n p a → t a ≡ true → ⊥) → (l : List Act)
-    → All (RightAct n p) l → tally t l ≡ 0
+    → AllByRecursion (RightAct n p) l → tally t l ≡ 0
 tally-none n p t no_one [] h = refl
 tally-none n p t no_one (a ∷ l) h = elim (cases_Bool (t a)) [
   | inl e ↦ absurd (no_one a h.0 e)

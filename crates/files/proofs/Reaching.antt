@@ -1,6 +1,6 @@
 -- A scan of a file comes through every stage that the file leads to.
 use Rattle.std.proofs.Common.{◌≡◌, ℕ, zero, suc, pred, ◌+◌, ◌<◌, ◌≤◌, false, eqb, List, [], ◌∷◌, ◌++◌, length, get_or, drop, Some, None, Err, Option, Result, sym, refl, ap, ◌∙◌, subst, inl, inr, append_assoc, append-nil, arith, length-append, length-drop}
-use Rattle.std.specs.List.{AllByRecursion as All}
+use Rattle.std.specs.List.{AllByRecursion}
 use Rattle.std.proofs.lemmas.List.{get_or_at}
 use Rattle.std.proofs.lemmas.Bool.{cond-false}
 use Rattle.fault.specs.declared.Fault.{Fault}
@@ -130,7 +130,7 @@ module _ (file : List ℕ) (r : Result Lines Fault) where
         whole = omega arith;
       }) k)
 
-all_middle : (P : Act → Type 0) (l : List Act) (a : Act) (m : List Act) → All P (l ++ (a ∷ m)) → P a
+all_middle : (P : Act → Type 0) (l : List Act) (a : Act) (m : List Act) → AllByRecursion P (l ++ (a ∷ m)) → P a
 all_middle P [] a m h = h.0
 all_middle P (b ∷ l) a m h = all_middle P l a m h.1
 

@@ -1,6 +1,6 @@
 -- What the lines of a chart keep: they are paired, and they can be played.
 use Rattle.std.specs.Prelude.{◌≡◌, ℕ, ◌+◌, ◌*◌, ◌<◌, ◌≤◌, List, [], ◌∷◌, ◌++◌, length}
-use Rattle.std.specs.List.{AllByRecursion as All}
+use Rattle.std.specs.List.{AllByRecursion}
 use Rattle.acts.specs.declared.Act.{Act}
 use Rattle.acts.specs.declared.Message.{Message}
 use Rattle.acts.specs.Acts.{InRange, part, sends, receives, Lines, line, Along}
@@ -9,7 +9,7 @@ use Rattle.acts.specs.Language.{Causal}
 -- the line of the party p among n: at most 32 acts, all in range and all its own
 pub record Fine (n p : ℕ) (l : List Act) : Type 0 where
   pub short : length l ≤ 32
-  pub acts : All (λ a. InRange n a × (a.party ≡ p)) l
+  pub acts : AllByRecursion (λ a. InRange n a × (a.party ≡ p)) l
 
 -- lines of n parties, from 0 up, of which the later ones may still be missing
 pub record Begun (n : ℕ) (c : Lines) : Type 0 where
