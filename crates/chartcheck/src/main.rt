@@ -1,12 +1,12 @@
 // Reads one chart file from standard input and says what it holds, or what spoils it.
 #![tactic(auto)]
 
-use anyhow::anyhow;
 use channel::bag::Bag;
 use channel::line::Line;
 use chart::chart::Chart;
 use conversation::order::Order;
 use input::front;
+use std::process::ExitCode;
 
 mod report;
 
@@ -44,10 +44,10 @@ fn run(rt: &HostRuntime) -> anyhow::Result<bool> {
 }
 
 // Ends with status 0 for a chart, and with 1 for a file that is refused.
-fn main(rt: HostRuntime) -> anyhow::Result<()> {
+fn main(rt: HostRuntime) -> anyhow::Result<ExitCode> {
     if run(&rt)? {
-        Ok(())
+        Ok(ExitCode::SUCCESS)
     } else {
-        Err(anyhow!("the file is refused"))
+        Ok(ExitCode::FAILURE)
     }
 }
