@@ -1,6 +1,6 @@
 -- What local lists are like: in range, told by agreement, and alike where their parts are.
 use Rattle.std.proofs.Common.{◌≡◌, ℕ, ◌≤◌, Bool, true, List, [], ◌++◌, Some, sym, ap, ◌∙◌, subst, arith}
-use Rattle.std.specs.List.{AllByRecursion as All}
+use Rattle.std.specs.List.{AllByRecursion}
 use Rattle.acts.specs.declared.Act.{Act}
 use Rattle.acts.specs.Acts.{InRange, part, SameParts, Along, Lines, line}
 use Rattle.acts.proofs.Parts.{part-++}
@@ -73,14 +73,14 @@ module _ (G : List Act → Bool) (n : ℕ) (f : Charts) (J : Judgeable G n f) wh
       let v : View f p (part p w) = l.views p in
       none-begins (part p w) (line v.chart p) v.fits (past_end v.chart n p (J.parties v.id v.chart v.held) h)
 
-  pub held_range : (i : ℕ) (c : Lines) → f i ≡ Some c → (p : ℕ) → All (InRange n) (line c p)
+  pub held_range : (i : ℕ) (c : Lines) → f i ≡ Some c → (p : ℕ) → AllByRecursion (InRange n) (line c p)
   held_range i c e p = line_range n c (J.lined i c e) (J.parties i c e) p
 
-  pub local_range : (w : List Act) → Local G f w → All (InRange n) w
+  pub local_range : (w : List Act) → Local G f w → AllByRecursion (InRange n) w
   local_range w l = all_parts (InRange n) w λ p.
       let v : View f p (part p w) = l.views p in
       all_left (InRange n) (part p w) v.fits.0
-      (subst (All (InRange n)) (sym v.fits.1) (held_range v.id v.chart v.held p))
+      (subst (AllByRecursion (InRange n)) (sym v.fits.1) (held_range v.id v.chart v.held p))
 
   -- a local list begins a held conversation exactly where one held chart agrees with all its parts
   pub begins-agrees : (w : List Act) → BeginsHeld G f w → HeldChart f (λ c. Along c w)

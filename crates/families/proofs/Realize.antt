@@ -1,6 +1,6 @@
 -- Realizability: what a family that is able to hold the held conversations does, and that the family of the views holds them.
 use Rattle.std.proofs.Common.{◌≡◌, ℕ, ◌<◌, Bool, List, [], ◌++◌, Some, sym, refl, ap, ◌∙◌, subst, inl, inr, append-nil}
-use Rattle.std.specs.List.{AllByRecursion as All}
+use Rattle.std.specs.List.{AllByRecursion}
 use Rattle.std.proofs.lemmas.Bool.{cases_lt}
 use Rattle.std.proofs.ByRecursion.{All-append}
 use Rattle.acts.specs.declared.Act.{Act}
@@ -120,10 +120,10 @@ module _ (G : List Act → Bool) (n : ℕ) (f : Charts) (J : Judgeable G n f) wh
     }
   ]
 
-  conversation_range : (w : List Act) → HeldConversation G f w → All (InRange n) w
+  conversation_range : (w : List Act) → HeldConversation G f w → AllByRecursion (InRange n) w
   conversation_range w x =
       all_parts (InRange n) w
-      (λ p. subst (All (InRange n)) (sym (x.fits.lines p)) (held_range G n f J x.id x.chart x.held p))
+      (λ p. subst (AllByRecursion (InRange n)) (sym (x.fits.lines p)) (held_range G n f J x.id x.chart x.held p))
 
   -- it is able to hold the held conversations
   pub tree_able : Able (tree f) G n f

@@ -1,6 +1,6 @@
 -- Families of machines, their runs, and the family of the views.
 use Rattle.std.specs.Prelude.{◌≡◌, ℕ, ◌<◌, Bool, true, ◌↔◌, List, [], ◌∷◌, ◌++◌}
-use Rattle.std.specs.List.{AllByRecursion as All}
+use Rattle.std.specs.List.{AllByRecursion}
 use Rattle.acts.specs.declared.Act.{Act}
 use Rattle.acts.specs.Acts.{InRange, part, Quiet}
 use Rattle.families.specs.Judgement.{Charts, View, LastView, HeldConversation}
@@ -20,7 +20,7 @@ pub data Path (M : Machines) (p : ℕ) : M.Place p → List Act → M.Place p �
 -- a list of acts in range for n parties, granted from clear, with a path for each party's part from its start
 pub record Run (M : Machines) (G : List Act → Bool) (n : ℕ) (w : List Act) : Type 0 where
   pub granted : G w ≡ true
-  pub range : All (InRange n) w
+  pub range : AllByRecursion (InRange n) w
   pub at : (p : ℕ) → p < n → M.Place p
   pub path : (p : ℕ) (h : p < n) → Path M p (M.start p) (part p w) (at p h)
 
@@ -34,7 +34,7 @@ pub record Whole (M : Machines) (G : List Act → Bool) (n : ℕ) (w : List Act)
 pub record MadeWhole (M : Machines) (G : List Act → Bool) (n : ℕ) (w : List Act) (r : Run M G n w) : Type 0 where
   pub more : List Act
   pub granted : G (w ++ more) ≡ true
-  pub range : All (InRange n) more
+  pub range : AllByRecursion (InRange n) more
   pub quiet : Quiet (w ++ more)
   pub at : (p : ℕ) → p < n → M.Place p
   pub path : (p : ℕ) (h : p < n) → Path M p (r.at p h) (part p more) (at p h)

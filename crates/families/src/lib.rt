@@ -1,5 +1,7 @@
 // Theorems about views, local lists and families of machines; each function's contract is one.
 
+#![tactic(auto)]
+
 ghost use Rattle.families.specs.Families.{Machines, AlikePair};
 ghost use Rattle.families.specs.Theorems.{AgreementTells, WayDoesNotMatter, ViewsRealize, RealizedUnbroken, BrokenIsRun, ViewsTell, VerdictsMean, AlikeDoTheSame, TestsDecide};
 

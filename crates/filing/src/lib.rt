@@ -1,3 +1,5 @@
+#![tactic(auto)]
+
 mod bytes;
 pub mod list_file;
 pub mod machine_file;

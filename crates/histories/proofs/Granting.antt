@@ -7,7 +7,7 @@ use Rattle.acts.specs.Acts.{part, Quiet, Lines}
 use Rattle.files.specs.Rules.{is_act}
 use Rattle.conversation.specs.Conversations.{Talks}
 use Rattle.families.specs.Judgement.{View}
-use Rattle.histories.specs.History.{add, withdraw, judge, begin, act, end, Reply, named, Answer, History, held, playing, carried_by, standing, act_of, parties}
+use Rattle.histories.specs.History.{add, withdraw, judge, begin, act, end, Reply, named, Answer, History, held, playing, carried_by, standing, act_of}
 use Rattle.histories.specs.Right.{Right, HasEqualChart, HoldsNothing, Judged, WithLines}
 
 pub none-some : {X : Type 0} (y : X) → None ≡ Some y → ⊥

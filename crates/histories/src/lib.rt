@@ -1,5 +1,7 @@
 // What a book must answer after every history of calls, and what then holds.
 
+#![tactic(auto)]
+
 ghost use Rattle.histories.specs.Law.{LawOverHistories};
 
 use families::Family;

@@ -2,7 +2,7 @@
 use Rattle.std.proofs.Common.{◌≡◌, ℕ, zero, suc, ◌+◌, ◌<◌, List, [], ◌∷◌, ◌++◌, length, get_or, take, sym, ap, ◌∙◌, subst, inl, inr, append_assoc, append-nil, arith}
 use mathlib.Core.List.Memᴰ
 use mathlib.Core.List.{Memᴰ}
-use Rattle.std.specs.List.{AllByRecursion as All}
+use Rattle.std.specs.List.{AllByRecursion}
 use Rattle.std.proofs.lemmas.List.{take_more, length-take-le}
 use Rattle.std.proofs.ByRecursion.{All-append}
 use Rattle.acts.specs.declared.Act.{Act}
@@ -57,12 +57,12 @@ module _ {X : Type 0} (g : ℕ → List Act → List X) where
       let z : k + suc at ≡ suc k + at = omega arith in
       Memᴰ.append_right (g k v) (each_has (suc k) vs e at (omega arith) (subst (λ (j : ℕ). Memᴰ e (g j (get_or vs at []))) z m))
 
-  pub each_all : (P : X → Type 0) (k : ℕ) (vs : List (List Act)) → ((at : ℕ) → at < length vs → All P (g (k + at) (get_or vs at []))) → All P (each_from g k vs)
+  pub each_all : (P : X → Type 0) (k : ℕ) (vs : List (List Act)) → ((at : ℕ) → at < length vs → AllByRecursion P (g (k + at) (get_or vs at []))) → AllByRecursion P (each_from g k vs)
   each_all P k [] h = tt
   each_all P k (v ∷ vs) h =
       All-append P (g k v) (each_from g (suc k) vs)
-      (subst (λ (j : ℕ). All P (g j v)) first (h 0 (omega arith)))
-      (each_all P (suc k) vs (λ at l. subst (λ (j : ℕ). All P (g j (get_or vs at []))) (next at) (h (suc at) (omega arith))))
+      (subst (λ (j : ℕ). AllByRecursion P (g j v)) first (h 0 (omega arith)))
+      (each_all P (suc k) vs (λ at l. subst (λ (j : ℕ). AllByRecursion P (g j (get_or vs at []))) (next at) (h (suc at) (omega arith))))
     where
       first : k + 0 ≡ k
       first = omega arith

@@ -1,6 +1,6 @@
 -- A machine file is made of bytes, and not too many.
 use Rattle.std.proofs.Common.{ℕ, zero, suc, ◌+◌, ◌*◌, ◌<◌, ◌≤◌, Bool, true, false, cond, List, [], ◌∷◌, length, get_or, sym, ap, ◌∙◌, subst, inl, inr, arith, length-append}
-use Rattle.std.specs.List.{AllByRecursion as All}
+use Rattle.std.specs.List.{AllByRecursion}
 use Rattle.std.proofs.ByRecursion.{All-append}
 use Rattle.acts.specs.declared.Act.{Act}
 use Rattle.acts.specs.declared.Letter.{Letter}
@@ -19,7 +19,7 @@ use Rattle.machines.proofs.Views.{view_at_lem, view_act, views_few}
 use Rattle.machines.proofs.Sizes.{lasts_few, party_size}
 
 abbrev Bytes : List ℕ → Type 0
-Bytes file = All (λ b. b < 256) file
+Bytes file = AllByRecursion (λ b. b < 256) file
 
 place_upto : (vs : List (List Act)) (v : List Act) → place vs v ≤ length vs
 place_upto [] v = omega arith

@@ -1,6 +1,6 @@
 -- The numbered lists of a party are its views.
 use Rattle.std.proofs.Common.{◌≡◌, ℕ, ◌<◌, ◌≤◌, Bool, true, List, [], ◌∷◌, ◌++◌, length, get_or, Some, None, Option, sym, refl, ap, ◌∙◌, subst, inl, inr, append_assoc}
-use Rattle.std.specs.List.{AllByRecursion as All}
+use Rattle.std.specs.List.{AllByRecursion}
 use Rattle.std.proofs.lemmas.Bool.{false≢true}
 use Rattle.acts.specs.declared.Act.{Act}
 use Rattle.acts.specs.Acts.{InRange, Lines, line}
@@ -51,11 +51,11 @@ module _ (G : List Act → Bool) (n : ℕ) (f : Charts) (J : Judgeable G n f) wh
   view_at_lem p k h = among_view p (get_or (views_of p f) k []) (at-among (views_of p f) k h)
 
   -- the acts of a view are in range and the party's own
-  pub view_acts : (p : ℕ) (v : List Act) → View f p v → All (λ a. InRange n a × (a.party ≡ p)) v
+  pub view_acts : (p : ℕ) (v : List Act) → View f p v → AllByRecursion (λ a. InRange n a × (a.party ≡ p)) v
   view_acts p v x =
       all_left (λ a. InRange n a × (a.party ≡ p)) v x.fits.0
-      (subst (All (λ a. InRange n a × (a.party ≡ p))) (sym x.fits.1)
-      (subst (λ (m : ℕ). All (λ a. InRange m a × (a.party ≡ p)) (line x.chart p)) (J.parties x.id x.chart x.held)
+      (subst (AllByRecursion (λ a. InRange n a × (a.party ≡ p))) (sym x.fits.1)
+      (subst (λ (m : ℕ). AllByRecursion (λ a. InRange m a × (a.party ≡ p)) (line x.chart p)) (J.parties x.id x.chart x.held)
       ((J.lined x.id x.chart x.held).fine p).acts))
 
   pub view_act : (p : ℕ) (u : List Act) (a : Act) → View f p (u ++ (a ∷ [])) → InRange n a × (a.party ≡ p)

@@ -1,6 +1,6 @@
 -- What the family of a machine file does, as statements that contracts cite.
 use Rattle.std.specs.Prelude.{ℕ, ◌<◌, ◌≤◌, Bool, List, length}
-use Rattle.std.specs.List.{AllByRecursion as All}
+use Rattle.std.specs.List.{AllByRecursion}
 use Rattle.acts.specs.declared.Act.{Act}
 use Rattle.families.specs.Judgement.{Charts, NothingBreaks, Judgeable}
 use Rattle.families.specs.Families.{tree, Precise, NoDeadEnd}
@@ -20,7 +20,7 @@ FileTells = (G : List Act → Bool) (n : ℕ) (f : Charts) → Judgeable G n f �
 
 -- the machine file is made of bytes, and has at most 10,912 of them
 pub record Fits (file : List ℕ) : Type 0 where
-  pub bytes : All (λ b. b < 256) file
+  pub bytes : AllByRecursion (λ b. b < 256) file
   pub few : length file ≤ 10912
 
 abbrev pub FileFits : Type 0

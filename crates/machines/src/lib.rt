@@ -1,5 +1,7 @@
 // The machine file and the list file; each function's contract is a theorem about them.
 
+#![tactic(auto)]
+
 ghost use Rattle.machines.specs.Theorems.{FileIsViews, FileTells, FileFits};
 ghost use Rattle.machines.specs.Worked.{WorkedFiles};
 

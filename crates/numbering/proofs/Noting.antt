@@ -1,14 +1,14 @@
 -- What stands among the noted lists, and at which place.
-use Rattle.std.proofs.Common.{◌≡◌, ℕ, zero, suc, ◌+◌, ◌*◌, ◌<◌, ◌≤◌, Bool, true, false, cond, ◌&&◌, ◌||◌, ◌⊎◌, List, [], ◌∷◌, ◌++◌, length, get_or, Some, None, Option, sym, refl, ap, ◌∙◌, subst, inl, inr, append_assoc, append-nil, arith, length-append}
-use Rattle.std.proofs.lemmas.Bool.{or_cases, or_parts, or_left, or_right, false≢true, both_ways, cases_Bool, cases_lt, cases_eq, cond-true, cond-false, cond_both}
+use Rattle.std.proofs.Common.{◌≡◌, ℕ, zero, suc, ◌+◌, ◌*◌, ◌<◌, ◌≤◌, Bool, true, false, ◌||◌, ◌⊎◌, List, [], ◌∷◌, ◌++◌, length, get_or, Some, None, Option, sym, refl, ap, ◌∙◌, subst, inl, inr, append_assoc, append-nil, arith}
+use Rattle.std.proofs.lemmas.Bool.{or_cases, or_left, or_right, false≢true, both_ways, cases_Bool, cases_lt, cases_eq, cond-true, cond-false, cond_both}
 use Rattle.std.proofs.lemmas.List.{get_or_append_left, get_or_push, length_push}
 use Rattle.acts.specs.declared.Act.{Act}
 use Rattle.acts.specs.Acts.{Lines, line, Beginning}
 use Rattle.families.specs.Judgement.{Charts}
 use Rattle.families.specs.Tests.{same_acts, begins_with, passes}
-use Rattle.numbering.specs.Numbering.{among, place, Apart, noted, noted_along, noted_line, views_below, views_of}
+use Rattle.numbering.specs.Numbering.{among, place, Apart, noted, noted_along, noted_line, views_below}
 use Rattle.numbering.specs.Masks.{begins}
-use Rattle.numbering.proofs.Same.{same_acts_lem, acts_same, acts_equal, acts_differ, begins_of, begins_beginning}
+use Rattle.numbering.proofs.Same.{same_acts_lem, acts_same, begins_of, begins_beginning}
 
 -- where a list stands
 pub record Stands (vs : List (List Act)) (v : List Act) : Type 0 where

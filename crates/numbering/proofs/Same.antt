@@ -1,13 +1,12 @@
 -- The tests of equal lists and beginnings tell.
-use Rattle.std.proofs.Common.{◌≡◌, ℕ, zero, suc, ◌+◌, ◌<◌, ◌≤◌, Bool, true, false, cond, ◌&&◌, ◌||◌, eqb, ◌⊎◌, List, [], ◌∷◌, ◌++◌, length, take, drop, sym, refl, ap, ◌∙◌, subst, inl, inr, append_assoc, append-nil, arith, length-append}
-use mathlib.Core.List.{cons-ne-nil}
-use Rattle.std.proofs.lemmas.Bool.{and_parts, and_from, and_left, and_right, eqb-true, eq-eqb, false≢true, both_ways, cases_Bool}
+use Rattle.std.proofs.Common.{◌≡◌, ◌+◌, ◌<◌, ◌≤◌, Bool, true, false, ◌&&◌, ◌||◌, eqb, List, [], ◌∷◌, ◌++◌, length, sym, refl, ap, ◌∙◌, subst, inl, inr, arith, length-append}
+use Rattle.std.proofs.lemmas.Bool.{and_parts, and_from, eqb-true, eq-eqb, false≢true, both_ways, cases_Bool}
 use Rattle.acts.specs.declared.Act.{Act}
 use Rattle.acts.specs.declared.Letter.{Letter}
 use Rattle.acts.specs.declared.Letter.TheVariants.{Send, Receive}
 use Rattle.acts.specs.Acts.{Beginning}
 use Rattle.acts.specs.Order.{rank}
-use Rattle.families.specs.Tests.{same_act, same_list, same_acts, begins_with}
+use Rattle.families.specs.Tests.{same_act, same_acts, begins_with}
 
 rank_same : (x y : Letter) → rank x ≡ rank y → x ≡ y
 rank_same Send Send e = refl

@@ -1,12 +1,11 @@
 -- The best view so far, one view on; and how many are left.
-use Rattle.std.proofs.Common.{◌≡◌, ℕ, zero, suc, ◌+◌, ◌<◌, ◌≤◌, Bool, true, false, cond, eqb, ltb, ◌⊎◌, List, [], ◌∷◌, length, get_or, Some, None, Option, sym, refl, ap, ◌∙◌, subst, inl, inr, arith}
+use Rattle.std.proofs.Common.{◌≡◌, ℕ, zero, suc, ◌+◌, ◌<◌, ◌≤◌, Bool, true, false, cond, eqb, ltb, List, [], ◌∷◌, length, Some, None, Option, sym, refl, ◌∙◌, subst, inl, inr, arith}
 use Rattle.std.proofs.lemmas.Bool.{cases_Bool, cases_eq, cond-true, cond-false, eqb-true, eq-eqb, ne_eqb, lt-ltb, ltb-true, both_ways, false≢true}
 use Rattle.acts.specs.declared.Act.{Act}
 use Rattle.acts.specs.Order.{Leftmost, fields, Sooner}
 use Rattle.acts.proofs.Ordering.{sooner_strict}
 use Rattle.paths.specs.Moves.{After}
 use Rattle.views.specs.declared.view.View.{View}
-use Rattle.views.specs.Spelled.{root, Child}
 use Rattle.views.specs.Children.{act_at, Later, Ahead, Best, comes, comes_after, left}
 
 module _ (nodes : List View) (at party : ℕ) (last : Option Act) (n : ℕ) where

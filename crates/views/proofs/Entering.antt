@@ -1,15 +1,15 @@
 -- A line is entered act by act.
-use Rattle.std.proofs.Common.{◌≡◌, ℕ, zero, suc, ◌+◌, ◌<◌, ◌≤◌, Bool, true, false, cond, ◌||◌, ◌≢◌, ◌⊎◌, List, [], ◌∷◌, ◌++◌, length, get_or, set, sym, refl, ap, ◌∙◌, subst, inl, inr, append-nil, arith, length-set}
+use Rattle.std.proofs.Common.{◌≡◌, ℕ, zero, suc, ◌<◌, ◌≤◌, Bool, true, false, cond, ◌||◌, List, [], ◌∷◌, ◌++◌, length, get_or, set, sym, refl, ap, ◌∙◌, subst, inl, inr, arith, length-set}
 use lib.Bits.{bit_or}
 use Rattle.std.proofs.lemmas.Bool.{cases_lt, cases_eq, cases_Bool, both_ways, cond-true, cond-false}
-use Rattle.std.proofs.lemmas.List.{get_or_append_left, get_or_push, length_push, get_or-set_same, get_or-set_other, get_or_read}
+use Rattle.std.proofs.lemmas.List.{get_or_append_left, get_or_push, length_push, get_or-set_same, get_or-set_other}
 use Rattle.acts.specs.declared.Act.{Act}
 use Rattle.families.specs.Tests.{same_acts, begins_with}
-use Rattle.numbering.specs.Numbering.{among, Apart, noted, noted_along}
-use Rattle.numbering.proofs.Same.{acts_equal, acts_differ, begins-push, longer_no, same_acts_lem, begins-length, acts_same}
-use Rattle.numbering.proofs.Noting.{apart_distinct, along_push, noted_only, along_keeps, stands_among, noted_keeps, among_stands, noted_there, noted_new}
+use Rattle.numbering.specs.Numbering.{among, Apart, noted}
+use Rattle.numbering.proofs.Same.{acts_differ, begins-push, longer_no, acts_same}
+use Rattle.numbering.proofs.Noting.{apart_distinct, along_push, along_keeps, noted_there, noted_new}
 use Rattle.views.specs.declared.view.View.{View}
-use Rattle.views.specs.Spelled.{root, spelled_from, spelled, Earlier}
+use Rattle.views.specs.Spelled.{root, spelled}
 use Rattle.views.specs.Building.{Grown, in_chart, completing, Masked, Bare, with_bit, Entered, Entering}
 use Rattle.views.proofs.Spelling.{spelled-length, spelled-first}
 use Rattle.views.proofs.Growing.{remasked_each, remasked}

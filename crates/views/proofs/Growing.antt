@@ -1,14 +1,14 @@
 -- A table with one view more, and with other masks.
-use Rattle.std.proofs.Common.{◌≡◌, ℕ, zero, suc, ◌+◌, ◌<◌, ◌≤◌, Bool, true, false, ◌≢◌, ◌⊎◌, List, [], ◌∷◌, ◌++◌, length, get_or, set, sym, refl, ap, ◌∙◌, subst, inl, inr, arith, length-set}
+use Rattle.std.proofs.Common.{◌≡◌, ℕ, zero, suc, ◌<◌, ◌≤◌, ◌⊎◌, List, [], ◌∷◌, ◌++◌, length, get_or, set, sym, refl, ap, ◌∙◌, subst, inl, inr, arith, length-set}
 use Rattle.std.proofs.lemmas.Bool.{cases_lt, cases_eq}
 use Rattle.std.proofs.lemmas.List.{get_or_append_left, get_or_push, length_push, get_or-set_same, get_or-set_other, get_or_read}
 use Rattle.acts.specs.declared.Act.{Act}
-use Rattle.numbering.specs.Numbering.{among, Apart, noted}
+use Rattle.numbering.specs.Numbering.{Apart, noted}
 use Rattle.numbering.proofs.Noting.{Listing, listing_push, noted_new, noted_there, stands_among}
 use Rattle.views.specs.declared.view.View.{View}
-use Rattle.views.specs.Spelled.{root, spelled_from, spelled, Earlier, Child, NoChild}
+use Rattle.views.specs.Spelled.{root, spelled, Earlier, Child, NoChild}
 use Rattle.views.specs.Building.{Grown}
-use Rattle.views.proofs.Spelling.{lengthening, spelled-push, spelled-length, spelled-first, same_spelling, child_spells, childless}
+use Rattle.views.proofs.Spelling.{spelled-push, spelled-length, spelled-first, same_spelling, child_spells, childless}
 
 -- other masks at a view
 module _ (nodes : List View) (at : ℕ) (h : at < length nodes) (x : View) (is : x ≡ get_or nodes at x) (y : View)

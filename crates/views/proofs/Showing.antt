@@ -1,9 +1,9 @@
 -- A table shows the charts whose lines were entered, one chart more each time.
-use Rattle.std.proofs.Common.{◌≡◌, ℕ, zero, suc, ◌+◌, ◌*◌, ◌^◌, ◌<◌, ◌≤◌, Bool, true, false, cond, ◌⊎◌, List, [], ◌∷◌, length, get_or, Some, None, Option, sym, refl, ap, ◌∙◌, subst, inl, inr, append-nil, zero-mul, arith}
+use Rattle.std.proofs.Common.{◌≡◌, ℕ, zero, suc, ◌+◌, ◌*◌, ◌^◌, ◌<◌, Bool, true, false, cond, List, [], ◌∷◌, get_or, Some, None, Option, sym, refl, ap, ◌∙◌, subst, inl, inr, append-nil, zero-mul, arith}
 use lib.Bits.{bit_or}
 use Rattle.std.proofs.lemmas.Bool.{cases_Bool, both_ways, false≢true}
 use Rattle.acts.specs.declared.Act.{Act}
-use Rattle.acts.specs.Acts.{Lines, line, Beginning}
+use Rattle.acts.specs.Acts.{Lines, line}
 use Rattle.families.specs.Judgement.{Charts}
 use Rattle.families.specs.Tests.{same_acts, begins_with, passes}
 use Rattle.numbering.specs.Numbering.{among, noted_line, views_below, views_of}
@@ -13,7 +13,7 @@ use Rattle.numbering.proofs.Noting.{below_has}
 use Rattle.numbering.proofs.Masks.{mask_or, mask-none}
 use Rattle.views.specs.declared.view.View.{View}
 use Rattle.views.specs.Spelled.{root, spelled}
-use Rattle.views.specs.Building.{Masked, Bare, with_bit, Entered}
+use Rattle.views.specs.Building.{Entered}
 use Rattle.views.specs.Tables.{ShowsBelow, Shows}
 
 -- before any chart

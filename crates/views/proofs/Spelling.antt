@@ -1,10 +1,10 @@
 -- How a table spells its views.
-use Rattle.std.proofs.Common.{◌≡◌, ℕ, zero, suc, ◌+◌, ◌<◌, ◌≤◌, Bool, true, false, ◌≢◌, ◌⊎◌, List, [], ◌∷◌, ◌++◌, length, get_or, set, sym, refl, ap, ◌∙◌, subst, inl, inr, append_assoc, append-nil, arith, length-append}
-use Rattle.std.proofs.lemmas.Bool.{cases_lt, cases_eq, cases_Bool, both_ways}
-use Rattle.std.proofs.lemmas.List.{get_or_append_left, get_or_push, length_push, get_or-set_same, get_or-set_other, same_from_push, append_cancel_left}
+use Rattle.std.proofs.Common.{◌≡◌, ℕ, zero, suc, ◌+◌, ◌<◌, false, List, [], ◌∷◌, ◌++◌, length, get_or, sym, refl, ap, ◌∙◌, inl, inr, arith}
+use Rattle.std.proofs.lemmas.Bool.{cases_Bool}
+use Rattle.std.proofs.lemmas.List.{get_or_append_left, get_or_push, length_push, same_from_push}
 use Rattle.acts.specs.declared.Act.{Act}
-use Rattle.numbering.specs.Numbering.{among, place, Apart}
-use Rattle.numbering.proofs.Noting.{Stands, among_stands, stands_among, apart_distinct}
+use Rattle.numbering.specs.Numbering.{among, Apart}
+use Rattle.numbering.proofs.Noting.{among_stands, apart_distinct}
 use Rattle.views.specs.declared.view.View.{View}
 use Rattle.views.specs.Spelled.{root, spelled_from, spelled, Earlier, Child, NoChild}
 

@@ -1,5 +1,5 @@
 -- How a table of views grows by a line.
-use Rattle.std.specs.Prelude.{◌≡◌, ℕ, ◌+◌, ◌<◌, ◌≤◌, Bool, false, cond, List, [], ◌∷◌, ◌++◌, length, get_or, bit_or, slice_index_or}
+use Rattle.std.specs.Prelude.{◌≡◌, ℕ, ◌+◌, ◌<◌, ◌≤◌, Bool, false, cond, List, [], length, get_or, bit_or, slice_index_or}
 use Rattle.acts.specs.declared.Act.{Act}
 use Rattle.families.specs.Tests.{same_acts, begins_with}
 use Rattle.numbering.specs.Numbering.{among, noted_along}

@@ -1,6 +1,5 @@
 -- What a table of views shows of the charts that it was made from.
-use Rattle.std.specs.Prelude.{◌≡◌, ℕ, ◌+◌, ◌*◌, ◌<◌, ◌≤◌, List, [], length, Some, None, Option, slice_index_or}
-use Rattle.acts.specs.declared.Act.{Act}
+use Rattle.std.specs.Prelude.{◌≡◌, ℕ, List, Some, None, Option, slice_index_or}
 use Rattle.acts.specs.Acts.{Lines}
 use Rattle.chart.specs.declared.chart.Chart.{Chart}
 use Rattle.chart.specs.Of.{lines_in}
@@ -8,7 +7,7 @@ use Rattle.families.specs.Judgement.{Charts}
 use Rattle.numbering.specs.Numbering.{views_below, views_of}
 use Rattle.numbering.specs.Masks.{mask, begins, completes}
 use Rattle.views.specs.declared.view.View.{View}
-use Rattle.views.specs.Spelled.{root, spelled}
+use Rattle.views.specs.Spelled.{spelled}
 use Rattle.views.specs.Building.{Masked}
 
 abbrev pub shown : Option Chart → Option Lines

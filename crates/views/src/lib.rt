@@ -1,2 +1,4 @@
+#![tactic(auto)]
+
 pub mod party_views;
 pub mod view;

@@ -1,9 +1,8 @@
-use Rattle.std.proofs.Common.{◌≡◌, ℕ, suc, ◌+◌, ◌*◌, ◌^◌, ◌<◌, ◌≤◌, List, length, get_or, Some, None, vec_items, vec_len, Option, sym, refl, ap, ◌∙◌, subst, add-one, arith}
+use Rattle.std.proofs.Common.{◌≡◌, ℕ, ◌+◌, ◌*◌, ◌<◌, ◌≤◌, List, length, get_or, Some, None, vec_items, vec_len, sym, ap, ◌∙◌, subst, add-one, arith}
 use Rattle.std.proofs.lemmas.Nat.{one_shl}
 use Rattle.std.proofs.lemmas.List.{get_or_read}
 use Rattle.acts.specs.declared.Act.{Act}
 use Rattle.acts.specs.Acts.{line}
-use Rattle.chart.specs.declared.chart.Chart.{Chart}
 use Rattle.chart.specs.Of.{lines_in}
 use Rattle.views.specs.declared.view.View.{View}
 use Rattle.views.specs.declared.party_views.PartyViews.{PartyViews}

@@ -1,5 +1,4 @@
-use Rattle.std.proofs.Common.{◌≡◌, ◌<◌, List, [], length, get_or, set, vec_items, sym, refl, ap, ◌∙◌, subst, arith}
-use Rattle.views.specs.declared.view.View.{View}
+use Rattle.std.proofs.Common.{◌<◌, [], length, vec_items, sym, subst, arith}
 use Rattle.views.specs.Building.{Entering, Entered}
 use Rattle.views.proofs.Entering.{entering_none, entering_all}
 use Rattle.views.proofs.party_views.PartyViews.enter_line.Goals as goal

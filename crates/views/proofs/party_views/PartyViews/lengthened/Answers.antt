@@ -1,5 +1,5 @@
 use Rattle.std.proofs.Common.{◌≡◌, ℕ, ◌<◌, ◌≤◌, List, [], ◌∷◌, ◌++◌, length, get_or, vec_items, sym, refl, ap, ◌∙◌, subst, arith}
-use Rattle.numbering.specs.Numbering.{Apart, noted}
+use Rattle.numbering.specs.Numbering.{Apart}
 use Rattle.views.specs.declared.view.View.{View}
 use Rattle.views.specs.Spelled.{spelled, Earlier}
 use Rattle.views.specs.Building.{Grown}
@@ -33,26 +33,15 @@ invariant_of-self c =
     let pre = c.requires.within in
     let h : c.args.at < length nodes = omega arith in
     let some : 0 < length nodes = let z = s.some in omega arith in
-    let none = c.in_default.ensures in (
-      (let l = c.push_reserved.ensures.len in omega arith),
-      (
-        (let l = c.push_reserved.ensures.len in let r = c.requires.room in omega arith),
-        (
-          (let k = c.push_reserved.ensures.capacity in let r = s.room in omega arith),
-          (
-            subst Earlier (sym e) (pushed_earlier nodes some s.earlier s.apart c.args.at h c.args.act x refl refl),
-            (
-              subst (λ (m : List View). Apart (spelled m)) (sym e) (pushed_apart nodes some s.earlier s.apart c.args.at h c.args.act x refl refl none),
-              (
-                subst (λ (m : List View). (k : ℕ) → length (get_or (spelled m) k []) ≤ 32) (sym e)
-                    (pushed_short nodes some s.earlier s.apart c.args.at h c.args.act x refl refl s.short c.requires.short),
-                tt,
-              ),
-            ),
-          ),
-        ),
-      ),
-    )
+    let none = c.in_default.ensures in record {
+      some = let l = c.push_reserved.ensures.len in omega arith;
+      few = let l = c.push_reserved.ensures.len in let r = c.requires.room in omega arith;
+      room = let k = c.push_reserved.ensures.capacity in let r = s.room in omega arith;
+      earlier = subst Earlier (sym e) (pushed_earlier nodes some s.earlier s.apart c.args.at h c.args.act x refl refl);
+      apart = subst (λ (m : List View). Apart (spelled m)) (sym e) (pushed_apart nodes some s.earlier s.apart c.args.at h c.args.act x refl refl none);
+      short = subst (λ (m : List View). (k : ℕ) → length (get_or (spelled m) k []) ≤ 32) (sym e)
+          (pushed_short nodes some s.earlier s.apart c.args.at h c.args.act x refl refl s.short c.requires.short);
+    }
 
 pub returns : goal.returns
 returns c =

@@ -1,4 +1,4 @@
-use Rattle.std.proofs.Common.{◌≡◌, ℕ, ◌+◌, ◌<◌, ◌≤◌, List, [], length, get_or, take, vec_items, vec_len}
+use Rattle.std.proofs.Common.{◌≡◌, ◌+◌, ◌<◌, ◌≤◌, List, [], length, get_or, take, vec_items, vec_len}
 use Rattle.views.specs.declared.view.View.{View}
 use Rattle.views.specs.Spelled.{spelled}
 use Rattle.views.specs.Building.{Entering}
