@@ -3,8 +3,8 @@ ghost use Rattle.lines.specs.Of.{lines_of};
 
 use lines::sheet::Sheet;
 
-mod filing;
 mod looking;
+mod storing;
 
 // A chart: for each of two to six parties a line of up to 32 acts. Every message is sent as often
 // as it is received, and some playing order holds all acts. It is a place, too, that a file is read

@@ -25,7 +25,7 @@ returns-then-is_ok g c =
     let few = c.parties-party-end.ensures.few in
     moved_from cl (g.C.Channel.meaning c.args.channel.now) (g.C.Channel.meaning c.loop-party.channel) (g.C.Channel.meaning c.carry.new.self)
     c.args.done.now done i c.line-line.result.now none (is_ok c.carry.result) c.loop-party.invariant.0 c.loop-party.invariant.1
-    (c.line-line.ensures.acts ∙ ap (line cl) (sym c.from-index.ensures)) c.if-at-line.true c.carry.ensures.test c.carry.ensures.after
+    (c.line-line.ensures.acts ∙ ap (line cl) (sym c.from-index.ensures)) (omega arith) c.carry.ensures.test c.carry.ensures.after
     c.line-line.ensures.short c.requires (omega arith) c.if-is_ok.ensures.value
 
 pub loop-party-preserved : goal.loop-party-preserved
@@ -46,11 +46,11 @@ loop-party-preserved g c =
           let n : Meaning = g.C.Channel.meaning w.carry.new.self in
           let b : Bool = is_ok w.carry.result in (
             ap g.C.Channel.meaning w.channel-is
-                ∙ kept_from cl start m n first done i l none b c.loop-party.invariant.0 same e w.if-at-line.true w.carry.ensures.test w.carry.ensures.after
+                ∙ kept_from cl start m n first done i l none b c.loop-party.invariant.0 same e (omega (arith, w.if-at-line.true)) w.carry.ensures.test w.carry.ensures.after
                 w.if-is_ok.ensures.value,
             same,
             below_more (Halted t cl first) c.loop-party.party c.loop-party.invariant.2 (subst (Halted t cl first) c.from-index.ensures
-                (halted_from cl start m n first done i l none b c.loop-party.invariant.0 same e w.if-at-line.true w.carry.ensures.test w.carry.ensures.after
+                (halted_from cl start m n first done i l none b c.loop-party.invariant.0 same e (omega (arith, w.if-at-line.true)) w.carry.ensures.test w.carry.ensures.after
                 w.if-is_ok.ensures.value)),
           )
       | else-at-line-via-else-at-line w ↦ (

@@ -18,24 +18,24 @@ pub loop-at-smaller : goal.loop-at-smaller
 loop-at-smaller g c =
     let f = further (g.C.Channel.meaning c.in_ok-book.book.channel).clearly c.args.session.now c.loop-at.at (string_bytes c.loop-at.text) (string_bytes c.command.new.text)
     (g.C.Channel.meaning c.loop-at.book.channel) (g.C.Channel.meaning c.command.new.book.channel) (charts_of c.loop-at.book) (charts_of c.command.new.book)
-    c.loop-at.invariant c.loop-at-test.true c.in_ok-next.field-0 c.in-Some.next c.in-Some.is c.in_ok-next.ensures in
+    c.loop-at.invariant (omega arith) c.in_ok-next.field-0 c.in-Some.next c.in-Some.is c.in_ok-next.ensures in
     omega arith
 
 pub loop-at-preserved : goal.loop-at-preserved
 loop-at-preserved g c =
     goes (g.C.Channel.meaning c.in_ok-book.book.channel).clearly c.args.session.now c.loop-at.at (string_bytes c.loop-at.text) (string_bytes c.command.new.text)
     (g.C.Channel.meaning c.loop-at.book.channel) (g.C.Channel.meaning c.command.new.book.channel) (charts_of c.loop-at.book) (charts_of c.command.new.book)
-    c.loop-at.invariant c.loop-at-test.true c.in_ok-next.field-0 c.in-Some.next c.in-Some.is c.in_ok-next.ensures
+    c.loop-at.invariant (omega arith) c.in_ok-next.field-0 c.in-Some.next c.in-Some.is c.in_ok-next.ensures
 
 pub returns-in-None : goal.returns-in-None
 returns-in-None g c =
     stopped_here (g.C.Channel.meaning c.in_ok-book.book.channel).clearly c.args.session.now c.loop-at.at (string_bytes c.loop-at.text) (string_bytes c.command.new.text)
     (g.C.Channel.meaning c.loop-at.book.channel) (g.C.Channel.meaning c.command.new.book.channel) (charts_of c.loop-at.book) (charts_of c.command.new.book)
-    c.loop-at.invariant c.loop-at-test.true c.in_ok-next.field-0 c.in-None.is c.in_ok-next.ensures
+    c.loop-at.invariant (omega arith) c.in_ok-next.field-0 c.in-None.is c.in_ok-next.ensures
     ∙ ap (λ (F : List Act → Bool). text_of_session F c.args.session.now) c.in_ok-book.ensures.rest.clearly
 
 pub returns : goal.returns
 returns g c =
     at_end (g.C.Channel.meaning c.in_ok-book.book.channel).clearly c.args.session.now c.loop-at.at (string_bytes c.loop-at.text) (g.C.Channel.meaning c.loop-at.book.channel) (charts_of c.loop-at.book)
-    c.loop-at.invariant c.loop-at-test.false
+    c.loop-at.invariant (omega arith)
     ∙ ap (λ (F : List Act → Bool). text_of_session F c.args.session.now) c.in_ok-book.ensures.rest.clearly
