@@ -2,6 +2,7 @@ ghost use Rattle.std.specs.Prelude.{◌≡◌, ◌+◌, ◌≤◌, length};
 ghost use Rattle.chart.specs.Putting.{Fits, Puts};
 
 // A lent output, and the place in it where the next byte goes.
+#[derive(Drop)]
 pub struct Output<'a> {
     bytes: &'a mut [u8],
     place: usize,
