@@ -1,6 +1,8 @@
 -- The lines that have begun, as the first of six stored ones.
 use Rattle.std.proofs.Common.{◌≡◌, ℕ, ◌+◌, ◌<◌, ◌≤◌, Bool, true, false, cond, ◌&&◌, ltb, List, [], ◌∷◌, ◌++◌, map, length, get_or, take, set, sym, refl, ap, ◌∙◌, subst, arith, length-append}
-use Rattle.std.proofs.lemmas.List.{length-map, length-take-le, get_or-take, get_or-map, get_or_past, take_more, take_more_set, map-set, take_all}
+use Rattle.std.specs.List.{sum_by}
+use Rattle.std.proofs.lemmas.List.Recursion.{is_sum_by}
+use Rattle.std.proofs.lemmas.List.{length-map, take-map, length-take-le, get_or-take, get_or-map, get_or_past, take_more, take_more_set, map-set}
 use Rattle.std.proofs.lemmas.Bool.{lt-ltb}
 use Rattle.acts.specs.declared.Act.{Act}
 use Rattle.acts.specs.Acts.{Lines, line}
@@ -51,7 +53,7 @@ pub record Grown (c : Lines) (a : Act) (done : Bool) (d : Lines) : Type 0 where
   pub after : d ≡ cond done (lengthened c a) c
 
 pub grown : {X : Type 0} (f : X → List Act) (items : List X) (j k : ℕ) (x y : X) (a : Act) (b : Bool) → j < length items → k ≡ j + 1
-    → x ≡ get_or items j x → Pushed b a (f x) (f y) → Grown (take k (map f items)) a b (take k (map f (set items j y)))
+    → x ≡ get_or items j x → Pushed 32 b a (f x) (f y) → Grown (take k (map f items)) a b (take k (map f (set items j y)))
 grown f items j k x y a b h e is p =
     let c : Lines = take j (map f items) in
     let was : take k (map f items) ≡ c ++ (f x ∷ []) = ap (λ (n : ℕ). take n (map f items)) e ∙ parted f items j x h is in
@@ -70,16 +72,6 @@ grown f items j k x y a b h e is p =
           ∙ ap (λ (d : Lines). cond b (lengthened d a) d) (sym was);
     }
 
-size-push : (c : Lines) (l : List Act) → size (c ++ (l ∷ [])) ≡ size c + length l
-size-push [] l = omega arith
-size-push (k ∷ c) l = let e = size-push c l in omega arith
-
--- the acts of one line more
-pub size_more : (c : Lines) (p n : ℕ) (l : List Act) → p < length c → l ≡ line c p → n ≡ size (take p c) → n + length l ≡ size (take (p + 1) c)
-size_more c p n l h e k =
-    let f : size (take (p + 1) c) ≡ size (take p c) + length (line c p) = ap size (take_more c p [] h) ∙ size-push (take p c) (line c p) in
-    let g = ap length e in
-    omega arith
-
-pub size-all : (c : Lines) (p n : ℕ) → length c ≤ p → n ≡ size (take p c) → n ≡ size c
-size-all c p n h e = e ∙ ap size (take_all p c h)
+-- the acts of all lines, line by line
+pub size_sum : {X : Type 0} (f : X → List Act) (items : List X) (k : ℕ) → size (take k (map f items)) ≡ sum_by (λ x. length (f x)) (take k items)
+size_sum f items k = ap size (take-map f k items) ∙ is_sum_by (λ xs. size (map f xs)) (λ x. length (f x)) refl (λ x xs. refl) (take k items)

@@ -39,11 +39,6 @@ impl Sheet {
     pub fn first_unpaired(&self) -> Option<u16>
         ensures { MatchOption result (KnownPaired (lines_of self.now)) (λ k. FirstUnpaired (lines_of self.now) k) }
     {
-        for number in 0..MESSAGES {
-            if !self.pairs(message_at(number)) {
-                return Some(number);
-            }
-        }
-        None
+        (0..MESSAGES).find(|number| !self.pairs(message_at(*number)))
     }
 }

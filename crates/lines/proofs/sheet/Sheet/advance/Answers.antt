@@ -1,4 +1,4 @@
-use Rattle.std.proofs.Common.{◌≡◌, ℕ, ◌+◌, true, false, List, length, get_or, set, vec_items, sym, ap, ◌∙◌, subst, inl, inr, arith, below_more}
+use Rattle.std.proofs.Common.{◌≡◌, ℕ, ◌+◌, true, false, List, length, get_or, set, sym, ap, ◌∙◌, subst, inl, inr, arith, below_more}
 use Rattle.std.proofs.lemmas.Bool.{cases_lt}
 use Rattle.acts.specs.declared.Act.{Act}
 use Rattle.acts.specs.Acts.{Lines, line}
@@ -53,7 +53,7 @@ returns c =
     stood cl done (subst (Within cl) (sym same) c.requires) (λ q. elim (cases_lt q c.loop-party.party) [
       | inl h ↦ c.loop-party.invariant.1 q h
       | inr h ↦
-          let none = ap length (no_line acts_of (vec_items s.lines) s.begun q (omega arith) (omega (arith, s.lines.ok.0))) in
+          let none = ap length (no_line acts_of (s.lines) s.begun q (omega arith) (omega (arith, s.six))) in
           halts_done (ready_by cl done) cl done q (omega arith)
     ]) in
     subst (λ (x : List ℕ). Advanced cl x false done) same A

@@ -1,4 +1,4 @@
-use Rattle.std.proofs.Common.{◌≡◌, ℕ, ◌+◌, List, [], ◌∷◌, ◌++◌, map, length, take, set, vec_items, sym, refl, ap, ◌∙◌, arith, rules}
+use Rattle.std.proofs.Common.{◌≡◌, ℕ, ◌+◌, List, [], ◌∷◌, ◌++◌, map, length, take, set, sym, refl, ap, ◌∙◌, arith, rules}
 use Rattle.std.proofs.lemmas.Bool.{lt-ltb, le-ltb}
 use Rattle.acts.specs.declared.Act.{Act}
 use Rattle.lines.specs.Of.{acts_of, lines_of}
@@ -8,14 +8,14 @@ use Rattle.lines.proofs.sheet.Sheet.begin_line.Goals as goal
 pub returns-then-self : goal.returns-then-self
 returns-then-self c =
     let s = c.args.self.now in
-    let k : length (lines_of s) ≡ s.begun = count acts_of (vec_items s.lines) s.begun (omega (arith, s.lines.ok.0)) in
+    let k : length (lines_of s) ≡ s.begun = count acts_of (s.lines) s.begun (omega (arith, s.six)) in
     record { test = sym (le-ltb _ _ (omega arith)); parties = refl; lines = refl }
 
 pub returns : goal.returns
 returns c =
     let s = c.args.self.now in
-    let items = vec_items s.lines in
-    let size : length items ≡ 6 = omega (arith, s.lines.ok.0) in
+    let items = s.lines in
+    let size = s.six in
     let k : length (lines_of s) ≡ s.begun = count acts_of items s.begun (omega arith) in
     let at : c.from.result ≡ s.begun = search rules in
     record {
