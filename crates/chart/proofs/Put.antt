@@ -5,7 +5,6 @@ use Rattle.acts.specs.declared.Act.{Act}
 use Rattle.acts.specs.Acts.{Lines, line}
 use Rattle.acts.specs.Language.{size}
 use Rattle.files.specs.Bytes.{acts_bytes, line_bytes, lines_bytes, file_of}
-use Rattle.lines.proofs.Sheets.{size_more}
 use Rattle.chart.specs.Writing.{put}
 
 pub put_one : (out : List ℕ) (at b : ℕ) → at < length out → set out at b ≡ put out at (b ∷ [])
@@ -80,6 +79,11 @@ size-take zero c = omega arith
 size-take (suc k) [] = omega arith
 size-take (suc k) (l ∷ c) = let e = size-take k c in omega arith
 
--- one line more of a file, as numbers
+-- one line more
 pub one_line : (c : Lines) (p : ℕ) (l : List Act) → p < length c → l ≡ line c p → size (take (p + 1) c) ≡ size (take p c) + length l
-one_line c p l h e = sym (size_more c p (size (take p c)) l h e refl)
+one_line [] p l h e = absurd (omega arith)
+one_line (k ∷ c) zero l h e = let g = ap length e in omega arith
+one_line (k ∷ c) (suc p) l h e =
+    let g = one_line c p l (omega arith) e in
+    let f : size (take (suc p + 1) (k ∷ c)) ≡ length k + size (take (p + 1) c) = ap (λ (n : ℕ). size (take n (k ∷ c))) (add-one (suc p)) ∙ ap (λ (n : ℕ). length k + size (take n c)) (sym (add-one p)) in
+    omega arith
