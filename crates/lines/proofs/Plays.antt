@@ -1,5 +1,5 @@
 -- A run along the lines without a channel, step by step and at its end.
-use Rattle.std.proofs.Common.{◌≡◌, ℕ, ◌<◌, ◌≤◌, true, false, ◌||◌, ltb, List, [], ◌∷◌, ◌++◌, length, Some, replicate, sym, refl, ap, ◌∙◌, subst}
+use Rattle.std.proofs.Common.{◌≡◌, ℕ, ◌<◌, ◌≤◌, true, false, ◌||◌, ltb, List, ◌∷◌, ◌++◌, length, Some, sym, refl, ap, ◌∙◌, subst}
 use Rattle.std.proofs.lemmas.Bool.{true≢false, false≢true}
 use Rattle.acts.specs.declared.Act.{Act}
 use Rattle.acts.specs.Acts.{sends, receives, is_send, send_of, receive_of, Lines, line}
@@ -11,7 +11,7 @@ use Rattle.acts.proofs.Stuck.{stuck_longest}
 use Rattle.lines.specs.Charts.{LongestOrder}
 use Rattle.lines.specs.Playing.{ready_by, Going, Advanced}
 use Rattle.lines.specs.Progress.{Within, so_far, next_act, passed}
-use Rattle.lines.proofs.Steps.{passed_is, within_more, parts_more, less_left, halts, parts_along, within_none, parts_none}
+use Rattle.lines.proofs.Steps.{passed_is, within_more, parts_more, less_left, halts, parts_along}
 
 -- how far the parties have come tells what can be played next
 pub ready_here : (c : Lines) (done : List ℕ) (w : List Act) → Going c done w → (a : Act) → ready w a ≡ ready_by c done a
@@ -53,10 +53,6 @@ stood c done W none = record {
         (ready_here c done w g a ∙ halts (ready_by c done) c done a.party (none a.party) a rest (ap (λ (x : List Act). x ++ (a ∷ rest)) (sym (g.parts a.party)) ∙ e));
   };
 }
-
--- at the outset nothing is played
-pub outset : (c : Lines) → Within c (replicate 6 0) × Going c (replicate 6 0) []
-outset c = (within_none c 6, record { playing = refl; parts = parts_none c 6 })
 
 -- at the end the playing order is a longest one
 pub ended : (c : Lines) (w : List Act) → Stuck plays c w → LongestOrder c (length w)

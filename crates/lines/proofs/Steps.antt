@@ -1,5 +1,5 @@
 -- One act more along the lines, whatever decides which acts may be done.
-use Rattle.std.proofs.Common.{◌≡◌, ℕ, zero, suc, ◌+◌, ◌-◌, ◌<◌, ◌≤◌, Bool, true, false, cond, Some, None, Option, is_some, List, [], ◌∷◌, ◌++◌, length, get_or, map, take, drop, set, replicate, sym, refl, ap, ◌∙◌, subst, inl, inr, append-nil, arith, lit≤, length-append}
+use Rattle.std.proofs.Common.{◌≡◌, ℕ, zero, suc, ◌+◌, ◌-◌, ◌<◌, ◌≤◌, Bool, true, false, cond, Some, None, Option, is_some, List, [], ◌∷◌, ◌++◌, length, get_or, map, take, drop, set, sym, refl, ap, ◌∙◌, subst, inl, inr, append-nil, arith, lit≤, length-append}
 use native.Mathlib.Decide.{ℕ_discrete}
 use Rattle.std.proofs.lemmas.List.{take-append-drop, take_more, take_all, drop_more, get_or-set_same, get_or-set_other, get_or_at, get_or_past, length-take, length-take-le}
 use Rattle.std.proofs.lemmas.List.Sums.{sum_by-set}
@@ -126,15 +126,3 @@ more s done i p e some six W =
 pub parts_along : (c : Lines) (done : List ℕ) (w : List Act) → ((p : ℕ) → part p w ≡ so_far c done p) → Along c w
 parts_along c done w g p =
     (drop (get_or done p 0) (line c p), ap (λ (x : List Act). x ++ drop (get_or done p 0) (line c p)) (g p) ∙ take-append-drop (get_or done p 0) (line c p))
-
-none_done : (n p : ℕ) → get_or {A = ℕ} (replicate n 0) p 0 ≡ 0
-none_done zero p = refl
-none_done (suc n) zero = refl
-none_done (suc n) (suc p) = none_done n p
-
--- at the outset nothing is done
-pub within_none : (c : Lines) (n : ℕ) → Within c (replicate n 0)
-within_none c n p = let e = none_done n p in omega arith
-
-pub parts_none : (c : Lines) (n p : ℕ) → part p [] ≡ so_far c (replicate n 0) p
-parts_none c n p = ap (λ (k : ℕ). take k (line c p)) (sym (none_done n p))
