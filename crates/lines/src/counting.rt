@@ -1,3 +1,5 @@
+#![tactic(auto, using(crate::proofs::Tallies::tally_count))]
+
 ghost use Rattle.std.specs.Prelude.{◌≡◌};
 ghost use Rattle.acts.specs.Acts.{sends, receives};
 

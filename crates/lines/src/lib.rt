@@ -3,4 +3,5 @@
 pub mod act_list;
 pub mod counting;
 pub mod party_line;
+pub mod progress;
 pub mod sheet;
