@@ -22,8 +22,7 @@ pub struct Reader<'s, 'f> {
     cursor: Cursor<'f>,
 }
 
-// `Due` stays a clause: it holds only until the command is taken, and a struct for so long only
-// wraps the reader.
+// `Due` stays a clause of four: a struct for the time of one command would only wrap the reader.
 impl Reader<'_, '_> {
     // C: the number of parties.
     fn open(&mut self) -> Result<ControlFlow<()>, Fault>

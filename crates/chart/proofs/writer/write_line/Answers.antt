@@ -1,4 +1,4 @@
-use Rattle.chart.proofs.Putting.{act_room, act_more, line_whole}
+use Rattle.chart.proofs.Putting.{act_room, act_more}
 use Rattle.chart.proofs.writer.write_line.Goals as goal
 
 pub write_act-requires : goal.write_act-requires

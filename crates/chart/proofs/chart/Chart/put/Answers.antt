@@ -1,7 +1,7 @@
 use Rattle.std.proofs.Common.{arith}
 use Rattle.acts.specs.Acts.{Lines}
 use Rattle.chart.specs.Of.{lines_in}
-use Rattle.chart.proofs.Putting.{line_room, end_room, line_more, file_whole}
+use Rattle.chart.proofs.Putting.{line_room, line_more, file_whole}
 use Rattle.chart.proofs.chart.Chart.put.Goals as goal
 
 pub write_line-requires : goal.write_line-requires

@@ -1,9 +1,6 @@
-use Rattle.std.proofs.Common.{ℕ, List, sym, refl, subst}
+use Rattle.std.proofs.Common.{ℕ, List, refl, subst}
 use Rattle.std.proofs.lemmas.Result.{err_from_is_err_and}
 use Rattle.fault.specs.declared.Fault.{Fault}
-use Rattle.lines.specs.declared.sheet.Sheet.{Sheet}
-use Rattle.lines.specs.Charts.{IsChart}
-use Rattle.lines.specs.Of.{lines_of}
 use Rattle.files.specs.Answers.{Refused}
 use Rattle.chart.proofs.chart.Chart.read.Goals as goal
 
