@@ -126,13 +126,12 @@ impl PartyViews {
     }
 
     // The party's views in the charts, which stand under their ids.
-    pub fn build(&mut self, charts: &[Option<Chart>], party: u8)
-        requires { length charts.now ≡ 8 }
+    pub fn build(&mut self, charts: &[Option<Chart>; 8], party: u8)
         ensures { Shows (table_of charts.now) party self.new.views.items }
     {
         self.restart();
-        for id in 0..8usize {
-            if let Some(chart) = &charts[id] {
+        for (id, chart) in charts.iter().enumerate() {
+            if let Some(chart) = chart {
                 self.enter_line(chart.line(party), 1 << id);
             }
         }
