@@ -1,6 +1,7 @@
 use acts::{Act, Letter};
 
 // A view of a party: a beginning of its line in some chart. It lengthens an earlier view by an act.
+// Views name each other by number, since the machine file and a search's tuples tell these numbers.
 #[derive(Clone, Copy)]
 pub struct View {
     pub lengthens: u16,
@@ -10,7 +11,8 @@ pub struct View {
     pub complete: u8,
 }
 
-// View 0, the empty one: its act counts for nothing.
+// View 0, the empty one: its act counts for nothing. An act that may be missing would be no plainer:
+// those who read the act of a later view would have to say what is done without it.
 pub const EMPTY: View = View {
     lengthens: 0,
     act: Act {
