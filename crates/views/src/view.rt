@@ -11,8 +11,8 @@ pub struct View {
     pub complete: u8,
 }
 
-// View 0, the empty one: its act counts for nothing. An act that may be missing would be no plainer:
-// those who read the act of a later view would have to say what is done without it.
+// View 0, the empty one: its act counts for nothing.
+// An Option there would be no plainer: whoever reads a later view's act would have to open it.
 pub const EMPTY: View = View {
     lengthens: 0,
     act: Act {
