@@ -42,11 +42,11 @@ after_from (Some b) a h = comes-from (fields b) (fields a) h
 abbrev pub numbered : List View → List (ℕ × View)
 numbered nodes = drop 1 (enumerate_from 0 nodes)
 
-numbered-length : (nodes : List View) → length (numbered nodes) ≡ length nodes - 1
+pub numbered-length : (nodes : List View) → length (numbered nodes) ≡ length nodes - 1
 numbered-length [] = refl
 numbered-length (x ∷ xs) = let n = length-enumerate_from (0 + 1) xs in omega arith
 
-numbered_at : (nodes : List View) (k : ℕ) (d : ℕ × View) → 0 < k → k < length nodes → get_or (numbered nodes) (k - 1) d ≡ (k, get_or nodes k d.1)
+pub numbered_at : (nodes : List View) (k : ℕ) (d : ℕ × View) → 0 < k → k < length nodes → get_or (numbered nodes) (k - 1) d ≡ (k, get_or nodes k d.1)
 numbered_at [] k d p h = absurd (omega arith)
 numbered_at (x ∷ xs) zero d p h = absurd (omega arith)
 numbered_at (x ∷ xs) (suc k) d p h =
