@@ -2,7 +2,7 @@ ghost use Rattle.std.specs.Prelude.{◌≡◌, ◌+◌, ◌^◌, ◌<◌, ◌≤
 ghost use Rattle.fault.specs.declared.FileCause.TheVariants.{Ends};
 ghost use Rattle.files.specs.Answers.{file_fault};
 
-use fault::{Fault, FileCause, Layer};
+use fault::{Fault, FileCause};
 
 // A lent file, and the place in it where the next command is due.
 #[derive(Drop)]
@@ -43,19 +43,13 @@ impl<'a> Cursor<'a> {
         requires { behind < 2 ^ 63 }
         ensures { result ≡ file_fault cause (self.now.place + behind) }
     {
-        Fault {
-            layer: Layer::File(cause),
-            place: (self.place + behind) as u64,
-        }
+        Fault::new(cause, self.place + behind)
     }
 
     // The fault of a file that ends too early.
     pub fn cut_short(&self) -> Fault
         ensures { result ≡ file_fault Ends (length self.now.file.now) }
     {
-        Fault {
-            layer: Layer::File(FileCause::Ends),
-            place: self.file.len() as u64,
-        }
+        Fault::new(FileCause::Ends, self.file.len())
     }
 }

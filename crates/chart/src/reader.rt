@@ -1,14 +1,15 @@
 ghost use Rattle.std.specs.Prelude.{◌≡◌, length, MatchResult};
 ghost use Rattle.lines.specs.Charts.{Lined, IsChart};
 ghost use Rattle.lines.specs.Of.{lines_of};
-ghost use Rattle.files.specs.Bytes.{file_of, byte_of_letter};
+ghost use Rattle.files.specs.Bytes.{file_of};
+ghost use Rattle.acts.specs.Acts.{byte_of_letter};
 ghost use Rattle.fault.specs.declared.FileCause.TheVariants.{GoesOn};
 ghost use Rattle.files.specs.Answers.{BadFile, Refused, file_fault};
 ghost use Rattle.chart.specs.Steps.{file_at, place_at, Due, Taken, letter_at, AtFront, Read};
 
 use crate::cursor::Cursor;
 use acts::{Act, Letter};
-use fault::{ChartCause, Fault, FileCause, Layer};
+use fault::{ChartCause, Fault, FileCause};
 use lines::sheet::Sheet;
 use std::ops::ControlFlow;
 
@@ -164,17 +165,11 @@ pub fn check(sheet: &Sheet) -> Result<(), Fault>
     ensures { Lined (lines_of sheet.now) → MatchResult result (λ _. IsChart (lines_of sheet.now)) (λ f. Refused (file_of (lines_of sheet.now)) f) }
 {
     if let Some(number) = sheet.first_unpaired() {
-        return Err(Fault {
-            layer: Layer::Chart(ChartCause::NotPaired),
-            place: u64::from(number),
-        });
+        return Err(Fault::new(ChartCause::NotPaired, usize::from(number)));
     }
     let acts = sheet.longest_order();
     if acts < sheet.size() {
-        return Err(Fault {
-            layer: Layer::Chart(ChartCause::NotPlayable),
-            place: acts as u64,
-        });
+        return Err(Fault::new(ChartCause::NotPlayable, acts));
     }
     Ok(())
 }

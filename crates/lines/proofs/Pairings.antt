@@ -1,8 +1,8 @@
 -- Messages by their numbers.
 use Rattle.std.proofs.Common.{◌≡◌, ℕ, ◌<◌, ◌≤◌, Some, None, Option, MatchOption, sym, refl, subst, arith}
 use Rattle.acts.specs.declared.Message.{Message}
-use Rattle.acts.specs.Acts.{Lines}
-use Rattle.lines.specs.Charts.{Known, rank_of, Pairs, FirstUnpaired, KnownPaired}
+use Rattle.acts.specs.Acts.{Known, Lines, rank_of}
+use Rattle.lines.specs.Charts.{Pairs, FirstUnpaired, KnownPaired}
 
 -- a message's number tells it from all others
 rank_same : (t u : Message) → Known t → Known u → rank_of t ≡ rank_of u → t ≡ u

@@ -10,7 +10,7 @@ use crate::chart::Chart;
 use crate::output::Output;
 use crate::reader::{check, fill};
 use crate::writer::write_line;
-use fault::{BookCause, Fault, Layer};
+use fault::{BookCause, Fault};
 use std::mem::swap;
 
 impl Chart {
@@ -51,10 +51,7 @@ impl Chart {
     {
         let due = self.file_length();
         if output.len() < due {
-            return Err(Fault {
-                layer: Layer::Book(BookCause::OutputShort),
-                place: due as u64,
-            });
+            return Err(Fault::new(BookCause::OutputShort, due));
         }
         self.put(&mut Output::new(output));
         Ok(due)
