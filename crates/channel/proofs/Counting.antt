@@ -1,11 +1,12 @@
 -- How many of each name a list counts, and how many in all.
-use Rattle.std.proofs.Common.{◌≡◌, ℕ, zero, suc, ◌+◌, ◌<◌, ◌≤◌, cond, eqb, List, length, take, set, replicate, sum, EachIndex, get_or, sym, refl, ap, ◌∙◌, inl, inr, add-one, arith}
+use Rattle.std.proofs.Common.{◌≡◌, ℕ, zero, suc, ◌+◌, ◌<◌, ◌≤◌, cond, eqb, List, length, take, set, replicate, sum, EachIndex, get_or, refl, ap, ◌∙◌, inl, inr, add-one, arith}
 use mathlib.Core.Path.{fun_ext}
-use Rattle.std.proofs.lemmas.List.{get_or_past, get_or-set_same, get_or-set_other, take_all}
+use Rattle.std.proofs.lemmas.List.{get_or_past, take_all}
 use Rattle.std.proofs.lemmas.List.Sums.{sum_by_more}
-use Rattle.std.proofs.lemmas.Bool.{eqb-true, eqb-false, cond-true, cond-false, cases_Bool, cases_lt}
+use Rattle.std.proofs.lemmas.Grind.{common_steps}
+use Rattle.std.proofs.lemmas.Bool.{cases_lt}
 use Rattle.acts.specs.declared.Letter.{Letter}
-use Rattle.acts.specs.declared.Letter.TheVariants.{Send}
+use Rattle.acts.specs.declared.Letter.TheVariants.{Send, Receive}
 use Rattle.channel.specs.Pairs.{change, total, in_any_order}
 use Rattle.channel.specs.Places.{counted}
 
@@ -33,21 +34,12 @@ counted_none n = fun_ext (zeros n)
 pub each_none : (xs : List ℕ) → EachIndex xs (λ k. get_or xs k 0 ≡ 0) → (m : ℕ) → counted xs m ≡ 0
 each_none xs z m = elim (cases_lt m (length xs)) [ inl h ↦ z m h | inr h ↦ get_or_past xs m 0 h ]
 
+-- one more of a name that is sent
 pub counted-put : (xs : List ℕ) (l : Letter) (m : ℕ) → m < length xs → l ≡ Send
     → counted (set xs m (counted xs m + 1)) ≡ change in_any_order l m (counted xs)
-counted-put xs l m h e =
-    counted_set xs m (counted xs m + 1) suc h (add-one (counted xs m))
-    ∙ ap (λ (k : Letter). change in_any_order k m (counted xs)) (sym e)
+counted-put xs Receive m h e = cc
+counted-put xs Send m h e = fun_ext (put xs m h)
   where
-    counted_set : (xs : List ℕ) (k v : ℕ) (f : ℕ → ℕ) → k < length xs → v ≡ f (counted xs k)
-        → counted (set xs k v) ≡ (λ m. cond (eqb k m) (f (counted xs m)) (counted xs m))
-    counted_set xs k v f h e = fun_ext (λ m. elim (cases_Bool (eqb k m)) [
-      | inl t ↦
-          let same : k ≡ m = eqb-true k m t in
-          ap (counted (set xs k v)) (sym same)
-          ∙ get_or-set_same xs k v 0 h
-          ∙ e
-          ∙ ap (λ (j : ℕ). f (counted xs j)) same
-          ∙ sym (cond-true (eqb k m) (f (counted xs m)) (counted xs m) t)
-      | inr t ↦ get_or-set_other xs k m v 0 (λ q. eqb-false k m t (sym q)) ∙ sym (cond-false (eqb k m) (f (counted xs m)) (counted xs m) t)
-    ])
+    put : (xs : List ℕ) (m : ℕ) → m < length xs → (k : ℕ)
+        → counted (set xs m (counted xs m + 1)) k ≡ cond (eqb m k) (suc (counted xs k)) (counted xs k)
+    put xs m h k = grind (arith, common_steps, add-one)

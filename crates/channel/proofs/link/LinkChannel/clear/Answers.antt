@@ -7,5 +7,8 @@ pub returns : goal.returns
 returns g c =
     let W = g.S.Store.way in
     let held = g.S.Store.held in
-    stored-cleared W held g.met.S.Store.lawful c.loop-store.store-items c.loop-store.invariant.0
-    (λ k x l h. c.loop-store.invariant.1 k x l (search rules)) (stored W held c.args.self.now.stores)
+    let stores = c.loop-store.store-items in
+    let cleared =
+    stored-cleared W held g.met.S.Store.lawful stores c.loop-store.invariant.0 (λ k x l h. c.loop-store.invariant.1 k x l (search rules))
+    (stored W held c.args.self.now.stores) in
+    search rules
