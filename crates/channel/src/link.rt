@@ -30,6 +30,7 @@ impl<S: Store> Channel for Link<S> {
     }
 
     fn may(&self, act: Act) -> bool {
+        // A match, since the closure of `is_some_and` would need `place`'s and `allows`' clauses again.
         match place(act) {
             Some(at) => self.stores[at].allows(act),
             None => false,
