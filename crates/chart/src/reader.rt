@@ -27,7 +27,7 @@ fn open(sheet: &mut Sheet, cursor: &mut Cursor) -> Result<bool, Fault>
     let [_, parties, ..] = cursor.rest() else {
         return Err(cursor.cut_short());
     };
-    if !sheet.open(*parties) {
+    if sheet.open(*parties).is_err() {
         return Err(cursor.fault(FileCause::OutOfRange, 1));
     }
     cursor.place += 2;
@@ -76,12 +76,15 @@ fn act(sheet: &mut Sheet, cursor: &mut Cursor, letter: Letter) -> Result<bool, F
         return Err(cursor.fault(FileCause::OutOfRange, 2));
     }
     let (peer, name) = (*peer, *name);
-    if !sheet.lengthen(Act {
-        party,
-        letter,
-        peer,
-        name,
-    }) {
+    if sheet
+        .lengthen(Act {
+            party,
+            letter,
+            peer,
+            name,
+        })
+        .is_err()
+    {
         return Err(cursor.fault(FileCause::LineFull, 0));
     }
     cursor.place += 3;

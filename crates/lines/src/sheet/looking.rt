@@ -37,10 +37,9 @@ impl Sheet {
     pub fn size(&self) -> usize
         ensures { result ≡ size (lines_of self.now) }
     {
-        let mut sum = 0;
-        for party in 0..self.begun {
-            sum += self.line(party).len();
-        }
-        sum
+        self.lines[..usize::from(self.begun)]
+            .iter()
+            .map(|line| line.acts().len())
+            .sum()
     }
 }
