@@ -1,179 +1,175 @@
 -- The files as they are put into an output, piece by piece.
-use Rattle.std.proofs.Common.{◌≡◌, ℕ, ◌+◌, ◌*◌, ◌<◌, ◌≤◌, List, [], ◌∷◌, ◌++◌, length, get_or, take, set, sym, refl, ap, ◌∙◌, append-nil, arith, length-append}
+use Rattle.std.proofs.Common.{◌≡◌, ℕ, ◌+◌, ◌-◌, ◌<◌, ◌≤◌, List, [], ◌∷◌, ◌++◌, length, get_or, take, sym, ap, ◌∙◌, subst, append-nil, arith, length-append}
 use Rattle.std.proofs.lemmas.List.{take_all, length-take-le}
+use Rattle.std.proofs.lemmas.List.FromFn.{length-range_with_len, get_or-range_with_len}
+use Rattle.std.proofs.lemmas.Slice.Zip.{length-zip, get_or-zip}
+use Rattle.std.specs.List.{zip, range_with_len}
 use Rattle.acts.specs.declared.Act.{Act}
-use Rattle.chart.specs.Writing.{put}
-use Rattle.chart.proofs.Put.{put_one, put_two, put_three, put_more, put_byte}
-use Rattle.machines.specs.Files.{word, move_bytes, last_bytes, told_bytes, list_file_bytes}
+use Rattle.chart.specs.declared.output.Output.{Output}
+use Rattle.chart.specs.Putting.{Fits, Puts}
+use Rattle.chart.proofs.Putting.{puts-more, puts-room}
+use Rattle.machines.specs.Files.{move_bytes, told_bytes, list_file_bytes}
 use Rattle.machines.proofs.Growing.{told_more}
-use Rattle.machines.proofs.Sizes.{told_size, list_size}
+use Rattle.machines.proofs.Sizes.{told_size}
 use Rattle.views.specs.declared.view.View.{View}
-use Rattle.views.specs.Spelled.{root}
-use Rattle.views.specs.Parties.{table_at}
+use Rattle.views.specs.declared.party_views.PartyViews.{PartyViews}
+use Rattle.views.specs.Parties.{nodes_in, tables_in, table_at}
 use Rattle.filing.specs.Filed.{move_of, last_of, each_view, table_bytes, tables_below, tables_file}
-use Rattle.filing.proofs.Rows.{row_more, row_room, move_later, last_yes, last_no, tables_more, tables_size, tables_upto, file_size}
-
-pub last_put : (out : List ℕ) (at k : ℕ) (o : List ℕ) → at + 3 ≤ length out → o ≡ put (set out at 70) (at + 1) (word k) → o ≡ put out at (last_bytes k)
-last_put out at k o h e =
-    e ∙ ap (λ (x : List ℕ). put x (at + 1) (word k)) (put_one out at 70 (omega arith)) ∙ put_more out at (70 ∷ []) (word k) (at + 1) refl (omega arith)
-
--- the seven bytes of a move
-pub move_put : (out : List ℕ) (at l from to e m : ℕ) (o₁ o₂ : List ℕ) → at + 7 ≤ length out
-    → o₁ ≡ put (set out at l) (at + 1) (word from) → o₂ ≡ put o₁ (at + 3) (word to)
-    → set (set o₂ (at + 5) e) (at + 6) m ≡ put out at (l ∷ (word from ++ (word to ++ (e ∷ m ∷ []))))
-move_put out at l from to e m o₁ o₂ h e₁ e₂ =
-    let b₁ : List ℕ = l ∷ [] in
-    let b₃ : List ℕ = l ∷ word from in
-    let b₅ : List ℕ = l ∷ (word from ++ word to) in
-    let b₆ : List ℕ = l ∷ (word from ++ (word to ++ (e ∷ []))) in
-    let f₁ : o₁ ≡ put out at b₃ =
-    e₁ ∙ ap (λ (x : List ℕ). put x (at + 1) (word from)) (put_one out at l (omega arith)) ∙ put_more out at b₁ (word from) (at + 1) refl (omega arith) in
-    let f₂ : o₂ ≡ put out at b₅ =
-    e₂ ∙ ap (λ (x : List ℕ). put x (at + 3) (word to)) f₁ ∙ put_more out at b₃ (word to) (at + 3) refl (omega arith) in
-    ap (λ (x : List ℕ). set (set x (at + 5) e) (at + 6) m) f₂
-    ∙ ap (λ (x : List ℕ). set x (at + 6) m) (put_byte out at b₅ (at + 5) e refl (omega arith))
-    ∙ put_byte out at b₆ (at + 6) m refl (omega arith)
+use Rattle.views.proofs.Choosing.{numbered, numbered-length, numbered_at}
+use Rattle.filing.proofs.Rows.{row_more, row_room, move_later, tables_more, tables_size, tables_upto, file_size, table_read}
 
 -- what is made of one view more
-module _ (g : ℕ → View → List ℕ) (at end i : ℕ) (xs : List View) (d : View) (h : i < length xs) (e : end ≡ at + length (each_view g 0 (take i xs))) where
-  pub row_fits : end + length (g i (get_or xs i d)) ≤ at + length (each_view g 0 xs)
-  row_fits = let r = row_room g xs i d h in omega arith
+module _ (g : ℕ → View → List ℕ) (a b : Output) (i : ℕ) (xs : List View) (d : View) (h : i < length xs) (room : Fits a (each_view g 0 xs))
+    (p : Puts a (each_view g 0 (take i xs)) b) where
+  pub row_fits : Fits b (g i (get_or xs i d))
+  row_fits = let r = row_room g xs i d h in puts-room a b (each_view g 0 (take i xs)) (length (g i (get_or xs i d))) (omega arith) p
 
-  pub row_end : end + length (g i (get_or xs i d)) ≡ at + length (each_view g 0 (take (i + 1) xs))
-  row_end =
-      let a = ap length (row_more g xs i d h) in
-      let b = length-append (each_view g 0 (take i xs)) (g i (get_or xs i d)) in
-      omega arith
-
-  pub row_put : (out o : List ℕ) → at + length (each_view g 0 xs) ≤ length out → o ≡ put out at (each_view g 0 (take i xs))
-      → put o end (g i (get_or xs i d)) ≡ put out at (each_view g 0 (take (i + 1) xs))
-  row_put out o room k =
+  pub row_puts : (c : Output) → Puts b (g i (get_or xs i d)) c → Puts a (each_view g 0 (take (i + 1) xs)) c
+  row_puts c q =
       let r = row_room g xs i d h in
-      ap (λ (x : List ℕ). put x end (g i (get_or xs i d))) k
-      ∙ put_more out at (each_view g 0 (take i xs)) (g i (get_or xs i d)) end e (omega arith)
-      ∙ ap (put out at) (sym (row_more g xs i d h))
+      subst (λ (l : List ℕ). Puts a l c) (sym (row_more g xs i d h))
+      (puts-more a b c (each_view g 0 (take i xs)) (g i (get_or xs i d)) (omega arith) p q)
 
--- one move more
-module _ (at end i : ℕ) (xs : List View) (later : 0 < i) (h : i < length xs) (e : end ≡ at + length (each_view move_of 0 (take i xs))) where
-  pub move_fits : end + 7 ≤ at + length (each_view move_of 0 xs)
-  move_fits =
-      let a = ap length (move_later i (get_or xs i root) later) in
-      let b = row_fits move_of at end i xs root h e in
-      omega arith
+  -- nothing is made of it
+  pub row_none : g i (get_or xs i d) ≡ [] → Puts a (each_view g 0 (take (i + 1) xs)) b
+  row_none e =
+      subst (λ (l : List ℕ). Puts a l b)
+      (sym (append-nil (each_view g 0 (take i xs)))
+      ∙ ap (λ (l : List ℕ). each_view g 0 (take i xs) ++ l) (sym e)
+      ∙ sym (row_more g xs i d h)) p
 
-  pub move_end : end + 7 ≡ at + length (each_view move_of 0 (take (i + 1) xs))
-  move_end =
-      let a = ap length (move_later i (get_or xs i root) later) in
-      let b = row_end move_of at end i xs root h e in
-      omega arith
+-- a view that comes with its number after i later ones
+pub record Comes (xs : List View) (i k : ℕ) (x : View) : Type 0 where
+  pub number : k ≡ i + 1
+  pub below : k < length xs
+  pub is : get_or xs k x ≡ x
 
-  pub moves_put : (out o : List ℕ) (d : View) → at + length (each_view move_of 0 xs) ≤ length out → o ≡ put out at (each_view move_of 0 (take i xs))
-      → put o end (move_bytes (get_or xs i d).lengthens i (get_or xs i d).act) ≡ put out at (each_view move_of 0 (take (i + 1) xs))
-  moves_put out o d room k = ap (put o end) (sym (move_later i (get_or xs i d) later)) ∙ row_put move_of at end i xs d h e out o room k
+pub comes : (xs : List View) (i k : ℕ) (x : View) → i < length (numbered xs) → ◌≡◌ {A = ℕ × View} (k, x) (get_or (numbered xs) i (k, x)) → Comes xs i k x
+comes xs i k x h e =
+    let n = numbered-length xs in
+    let m : i + 1 - 1 ≡ i = omega arith in
+    let f = e ∙ ap (λ (j : ℕ). get_or (numbered xs) j (k, x)) (sym m) ∙ numbered_at xs (i + 1) (k, x) (omega arith) (omega arith) in
+    let z : k ≡ i + 1 = ap (λ (y : ℕ × View). y.0) f in
+    record { number = z; below = omega arith; is = ap (λ (j : ℕ). get_or xs j x) z ∙ sym (ap (λ (y : ℕ × View). y.1) f) }
 
--- one view more, which is a last one or not
-module _ (at end i : ℕ) (xs : List View) (d : View) (h : i < length xs) (e : end ≡ at + length (each_view last_of 0 (take i xs))) where
-  module _ (yes : (get_or xs i d).complete ≡ 0 → ⊥) where
-    pub last_fits : end + 3 ≤ at + length (each_view last_of 0 xs)
-    last_fits =
-        let a = ap length (last_yes i (get_or xs i d) yes) in
-        let b = row_fits last_of at end i xs d h e in
-        omega arith
+-- the move to it
+module _ (a b : Output) (i k : ℕ) (xs : List View) (x : View) (C : Comes xs i k x) (room : Fits a (each_view move_of 0 xs))
+    (p : Puts a (each_view move_of 0 (take (i + 1) xs)) b) where
+  so_far : Puts a (each_view move_of 0 (take k xs)) b
+  so_far = subst (λ (j : ℕ). Puts a (each_view move_of 0 (take j xs)) b) (sym C.number) p
 
-    pub last_end : end + 3 ≡ at + length (each_view last_of 0 (take (i + 1) xs))
-    last_end =
-        let a = ap length (last_yes i (get_or xs i d) yes) in
-        let b = row_end last_of at end i xs d h e in
-        omega arith
+  here : move_of k (get_or xs k x) ≡ move_bytes x.lengthens k x.act
+  here = let z = C.number in ap (move_of k) C.is ∙ move_later k x (omega arith)
 
-    pub lasts_put : (out o : List ℕ) → at + length (each_view last_of 0 xs) ≤ length out → o ≡ put out at (each_view last_of 0 (take i xs))
-        → put o end (last_bytes i) ≡ put out at (each_view last_of 0 (take (i + 1) xs))
-    lasts_put out o room k = ap (put o end) (sym (last_yes i (get_or xs i d) yes)) ∙ row_put last_of at end i xs d h e out o room k
+  pub move_fits : Fits b (move_bytes x.lengthens k x.act)
+  move_fits = subst (Fits b) here (row_fits move_of a b k xs x C.below room so_far)
 
-  pub no_last : (get_or xs i d).complete ≡ 0 → each_view last_of 0 (take (i + 1) xs) ≡ each_view last_of 0 (take i xs)
-  no_last none =
-      row_more last_of xs i d h
-      ∙ ap (λ (l : List ℕ). each_view last_of 0 (take i xs) ++ l) (last_no i (get_or xs i d) none)
-      ∙ append-nil (each_view last_of 0 (take i xs))
+  pub move_puts : (c : Output) (n : ℕ) → n ≡ k → Puts b (move_bytes x.lengthens k x.act) c → Puts a (each_view move_of 0 (take (n + 1) xs)) c
+  move_puts c n e q =
+      subst (λ (j : ℕ). Puts a (each_view move_of 0 (take (j + 1) xs)) c) (sym e)
+      (row_puts move_of a b k xs x C.below room so_far c (subst (λ (l : List ℕ). Puts b l c) (sym here) q))
 
 -- a party: its moves behind its number, its last views behind them
-pub party_put : (out : List ℕ) (at p moved : ℕ) (xs : List View) (o₁ o₂ : List ℕ) → at + length (table_bytes p xs) ≤ length out
-    → moved ≡ (at + 2) + length (each_view move_of 0 xs)
-    → o₁ ≡ put (set (set out at 80) (at + 1) p) (at + 2) (each_view move_of 0 xs) → o₂ ≡ put o₁ moved (each_view last_of 0 xs)
-    → o₂ ≡ put out at (table_bytes p xs)
-party_put out at p moved xs o₁ o₂ room n e₁ e₂ =
-    let ms = each_view move_of 0 xs in
-    let ls = each_view last_of 0 xs in
-    let a = length-append ms ls in
-    let f₁ : o₁ ≡ put out at (80 ∷ p ∷ ms) =
-    e₁ ∙ ap (λ (x : List ℕ). put x (at + 2) ms) (put_two out at 80 p (omega arith)) ∙ put_more out at (80 ∷ p ∷ []) ms (at + 2) refl (omega arith) in
-    e₂ ∙ ap (λ (x : List ℕ). put x moved ls) f₁ ∙ put_more out at (80 ∷ p ∷ ms) ls moved (omega arith) (omega arith)
+module _ (a b : Output) (p : ℕ) (xs : List View) (room : Fits a (table_bytes p xs)) (f : Puts a (80 ∷ p ∷ []) b) where
+  module _ (c : Output) (m : Puts b (each_view move_of 0 xs) c) where
+    moved : Puts a (80 ∷ p ∷ each_view move_of 0 xs) c
+    moved =
+        let n = length-append (each_view move_of 0 xs) (each_view last_of 0 xs) in
+        puts-more a b c (80 ∷ p ∷ []) (each_view move_of 0 xs) (omega arith) f m
 
--- one party more
-module _ (ts : List (List View)) (end p n : ℕ) (xs : List View) (h : p < n) (is : xs ≡ table_at ts p) (e : end ≡ 3 + length (tables_below ts p)) where
-  pub table_end : end + length (table_bytes p xs) ≡ 3 + length (tables_below ts (p + 1))
-  table_end =
-      let a = tables_size ts p in
-      let b = ap (λ (l : List View). length (table_bytes p l)) is in
-      omega arith
+    pub party_puts : (d : Output) → Puts c (each_view last_of 0 xs) d → Puts a (table_bytes p xs) d
+    party_puts d l =
+        let n = length-append (each_view move_of 0 xs) (each_view last_of 0 xs) in
+        puts-more a c d (80 ∷ p ∷ each_view move_of 0 xs) (each_view last_of 0 xs) (omega arith) moved l
 
-  pub table_fits : (code : ℕ) → end + length (table_bytes p xs) < length (tables_file code n ts)
-  table_fits code =
-      let a = table_end in
-      let b = tables_upto ts (p + 1) n (omega arith) in
-      let c = file_size code n ts in
-      omega arith
+-- a party that comes with its number after i others
+pub record IsParty (ps : List PartyViews) (n i p : ℕ) (x : PartyViews) : Type 0 where
+  pub number : p ≡ i
+  pub below : i < n
+  pub is : nodes_in x ≡ table_at (tables_in ps) i
 
-  pub table_put : (out o : List ℕ) → 3 + length (tables_below ts n) ≤ length out → o ≡ put out 3 (tables_below ts p)
-      → put o end (table_bytes p xs) ≡ put out 3 (tables_below ts (p + 1))
-  table_put out o room k =
-      let b = tables_upto ts p n (omega arith) in
-      ap (λ (x : List ℕ). put x end (table_bytes p xs)) k
-      ∙ put_more out 3 (tables_below ts p) (table_bytes p xs) end e (omega arith)
-      ∙ ap (λ (l : List View). put out 3 (tables_below ts p ++ table_bytes p l)) is
-      ∙ ap (put out 3) (sym (tables_more ts p))
+pub is_party : (ps : List PartyViews) (n i p : ℕ) (x : PartyViews) → n ≤ length ps → i < length (zip (range_with_len 0 n) ps)
+    → ◌≡◌ {A = ℕ × PartyViews} (p, x) (get_or (zip (range_with_len 0 n) ps) i (p, x)) → IsParty ps n i p x
+is_party ps n i p x w h e =
+    let l = length-zip (range_with_len 0 n) ps in
+    let r = length-range_with_len 0 n in
+    let b : i < n = omega arith in
+    let f = e ∙ get_or-zip (range_with_len 0 n) ps i (p, x) (omega arith) (omega arith) in
+    let z = ap (λ (y : ℕ × PartyViews). y.0) f ∙ get_or-range_with_len 0 n i p b in
+    record { number = omega arith; below = b; is = table_read ps i x (omega arith) (ap (λ (y : ℕ × PartyViews). y.1) f) }
 
--- the whole machine file
-pub file_put : (ts : List (List View)) (out : List ℕ) (code n end : ℕ) (o : List ℕ) → length (tables_file code n ts) ≤ length out
-    → end ≡ 3 + length (tables_below ts n) → o ≡ put (set (set (set out 0 75) 1 code) 2 n) 3 (tables_below ts n)
-    → set o end 90 ≡ put out 0 (tables_file code n ts)
-file_put ts out code n end o room e k =
-    let due = file_size code n ts in
-    let E : List ℕ = set (set (set out 0 75) 1 code) 2 n in
-    let b : List ℕ = tables_below ts n in
-    let f : E ≡ put out 0 (75 ∷ code ∷ n ∷ []) = put_three out 0 75 code n (omega arith) in
-    let g : o ≡ put out 0 (75 ∷ code ∷ n ∷ b) =
-    k ∙ ap (λ (x : List ℕ). put x 3 b) f ∙ put_more out 0 (75 ∷ code ∷ n ∷ []) b 3 refl (omega arith) in
-    ap (λ (x : List ℕ). set x end 90) g ∙ put_byte out 0 (75 ∷ code ∷ n ∷ b) end 90 (omega arith) (omega arith)
+-- all parties came
+pub parties_all : (ps : List PartyViews) (n i : ℕ) → n ≤ length ps → i ≡ length (zip (range_with_len 0 n) ps) → i ≡ n
+parties_all ps n i w e =
+    let l = length-zip (range_with_len 0 n) ps in
+    let r = length-range_with_len 0 n in
+    omega arith
 
--- the four bytes of an act
-pub act_put : (out : List ℕ) (at a b c d : ℕ) → at + 4 ≤ length out
-    → set (set (set (set out at a) (at + 1) b) (at + 2) c) (at + 3) d ≡ put out at (a ∷ b ∷ c ∷ d ∷ [])
-act_put out at a b c d h =
-    ap (λ (o : List ℕ). set o (at + 3) d) (put_three out at a b c (omega arith)) ∙ put_byte out at (a ∷ b ∷ c ∷ []) (at + 3) d refl (omega arith)
+-- the machine file so far: its front and the first parties
+abbrev pub front : (code n : ℕ) → List (List View) → ℕ → List ℕ
+front code n ts i = 75 ∷ code ∷ n ∷ tables_below ts i
 
--- one act more of a list
-pub told_put : (out : List ℕ) (end i : ℕ) (acts : List Act) (o : List ℕ) (d : Act) → i < length acts → end ≡ 2 + 4 * i
-    → 2 + 4 * length acts ≤ length out → o ≡ put out 2 (told_bytes (take i acts))
-    → put o end (told_bytes (get_or acts i d ∷ [])) ≡ put out 2 (told_bytes (take (i + 1) acts))
-told_put out end i acts o d h e room k =
-    let l = told_size (take i acts) in
-    let t = length-take-le i acts (omega arith) in
-    ap (λ (x : List ℕ). put x end (told_bytes (get_or acts i d ∷ []))) k
-    ∙ put_more out 2 (told_bytes (take i acts)) (told_bytes (get_or acts i d ∷ [])) end (omega arith) (omega arith)
-    ∙ ap (put out 2) (sym (told_more acts i d h))
+module _ (ts : List (List View)) (code n : ℕ) (a b : Output) (i : ℕ) (room : Fits a (tables_file code n ts)) (p : Puts a (front code n ts i) b) where
+  -- one party more
+  module _ (party : ℕ) (xs : List View) (number : party ≡ i) (h : i < n) (is : xs ≡ table_at ts i) where
+    same : table_bytes party xs ≡ table_bytes i (table_at ts i)
+    same = ap (λ (k : ℕ). table_bytes k xs) number ∙ ap (table_bytes i) is
 
--- the whole list file
-pub list_put : (out : List ℕ) (kind end i : ℕ) (acts : List Act) (o : List ℕ) → length (list_file_bytes kind acts) ≤ length out
-    → length acts ≤ i → end ≡ 2 + 4 * length acts → o ≡ put (set (set out 0 87) 1 kind) 2 (told_bytes (take i acts))
-    → set o end 90 ≡ put out 0 (list_file_bytes kind acts)
-list_put out kind end i acts o room h e k =
-    let due = list_size kind acts in
-    let l = told_size acts in
-    let b : List ℕ = told_bytes acts in
-    let f : o ≡ put out 0 (87 ∷ kind ∷ b) =
-    k
-    ∙ ap (λ (w : List Act). put (set (set out 0 87) 1 kind) 2 (told_bytes w)) (take_all i acts h)
-    ∙ ap (λ (x : List ℕ). put x 2 b) (put_two out 0 87 kind (omega arith))
-    ∙ put_more out 0 (87 ∷ kind ∷ []) b 2 refl (omega arith) in
-    ap (λ (x : List ℕ). set x end 90) f ∙ put_byte out 0 (87 ∷ kind ∷ b) end 90 (omega arith) (omega arith)
+    pub table_fits : Fits b (table_bytes party xs)
+    table_fits =
+        let s = tables_size ts i in
+        let u = tables_upto ts (i + 1) n (omega arith) in
+        let e = file_size code n ts in
+        subst (Fits b) (sym same) (puts-room a b (front code n ts i) (length (table_bytes i (table_at ts i))) (omega arith) p)
+
+    pub table_puts : (c : Output) (k : ℕ) → k ≡ i + 1 → Puts b (table_bytes party xs) c → Puts a (front code n ts k) c
+    table_puts c k f q =
+        let u = tables_upto ts i n (omega arith) in
+        let e = file_size code n ts in
+        subst (λ (l : List ℕ). Puts a (75 ∷ code ∷ n ∷ l) c) (sym (tables_more ts i) ∙ ap (tables_below ts) (sym f))
+        (puts-more a b c (front code n ts i) (table_bytes i (table_at ts i)) (omega arith) p (subst (λ (l : List ℕ). Puts b l c) same q))
+
+  -- the whole file
+  module _ (h : i ≡ n) where
+    whole : Puts a (front code n ts n) b
+    whole = subst (λ (k : ℕ). Puts a (front code n ts k) b) h p
+
+    pub last_fits : Fits b (90 ∷ [])
+    last_fits = let e = file_size code n ts in puts-room a b (front code n ts n) 1 (omega arith) whole
+
+    pub file_puts : (c : Output) → Puts b (90 ∷ []) c → Puts a (tables_file code n ts) c
+    file_puts c q = let e = file_size code n ts in puts-more a b c (front code n ts n) (90 ∷ []) (omega arith) whole q
+
+-- the list file so far: its front and the first acts
+module _ (kind : ℕ) (acts : List Act) (a b : Output) (i : ℕ) (room : Fits a (list_file_bytes kind acts)) (p : Puts a (87 ∷ kind ∷ told_bytes (take i acts)) b) where
+  -- one act more
+  module _ (d : Act) (h : i < length acts) where
+    sizes : length (told_bytes (take i acts)) + 4 ≤ length (told_bytes acts)
+    sizes =
+        let m = told_size acts in
+        let l = told_size (take i acts) in
+        let t = length-take-le i acts (omega arith) in
+        omega arith
+
+    pub act_fits : Fits b (told_bytes (get_or acts i d ∷ []))
+    act_fits =
+        let s = sizes in
+        let e = length-append (told_bytes acts) (90 ∷ []) in
+        puts-room a b (87 ∷ kind ∷ told_bytes (take i acts)) 4 (omega arith) p
+
+    pub act_puts : (c : Output) → Puts b (told_bytes (get_or acts i d ∷ [])) c → Puts a (87 ∷ kind ∷ told_bytes (take (i + 1) acts)) c
+    act_puts c q =
+        let s = sizes in
+        let e = length-append (told_bytes acts) (90 ∷ []) in
+        subst (λ (l : List ℕ). Puts a (87 ∷ kind ∷ l) c) (sym (told_more acts i d h))
+        (puts-more a b c (87 ∷ kind ∷ told_bytes (take i acts)) (told_bytes (get_or acts i d ∷ [])) (omega arith) p q)
+
+  -- the whole list
+  module _ (h : length acts ≤ i) where
+    told : Puts a (87 ∷ kind ∷ told_bytes acts) b
+    told = subst (λ (l : List Act). Puts a (87 ∷ kind ∷ told_bytes l) b) (take_all i acts h) p
+
+    pub list_puts : (c : Output) → Puts b (90 ∷ []) c → Puts a (list_file_bytes kind acts) c
+    list_puts c q =
+        let e = length-append (told_bytes acts) (90 ∷ []) in
+        puts-more a b c (87 ∷ kind ∷ told_bytes acts) (90 ∷ []) (omega arith) told q

@@ -1,7 +1,8 @@
 -- What is made of each view of a table: one view more, and how many bytes it is.
-use Rattle.std.proofs.Common.{◌≡◌, ℕ, zero, suc, ◌+◌, ◌-◌, ◌*◌, ◌<◌, ◌≤◌, List, [], ◌∷◌, ◌++◌, length, get_or, take, sym, refl, ap, ◌∙◌, inl, inr, append_assoc, append-nil, arith, length-append}
+use Rattle.std.proofs.Common.{◌≡◌, ℕ, zero, suc, ◌+◌, ◌-◌, ◌*◌, ◌<◌, ◌≤◌, Bool, cond, not, ◌==◌, List, [], ◌∷◌, ◌++◌, length, get_or, take, sym, refl, ap, ◌∙◌, inl, inr, append_assoc, append-nil, arith, length-append}
 use Rattle.std.proofs.lemmas.List.{take_more, length-take-le, get_or-map}
-use Rattle.std.proofs.lemmas.Bool.{cases_eq}
+use Rattle.std.proofs.lemmas.Bool.{cases_eq, ne_eqb}
+use Rattle.std.specs.List.{filter}
 use Rattle.machines.specs.Files.{move_bytes, last_bytes, each_from}
 use Rattle.acts.specs.declared.Act.{Act}
 use Rattle.views.specs.declared.view.View.{View}
@@ -65,11 +66,6 @@ pub move_later : (k : ℕ) (x : View) → 0 < k → move_of k x ≡ move_bytes x
 move_later zero x h = absurd (omega arith)
 move_later (suc k) x h = refl
 
--- view 0 has no move
-pub moves_first : (xs : List View) → each_view move_of 0 (take 1 xs) ≡ []
-moves_first [] = refl
-moves_first (x ∷ xs) = refl
-
 moves_full : (k : ℕ) (xs : List View) → length (each_view move_of (suc k) xs) ≡ 7 * length xs
 moves_full k [] = refl
 moves_full k (x ∷ xs) = let r = moves_full (suc k) xs in omega arith
@@ -88,6 +84,24 @@ last_yes k x h = go x.complete h
 
 pub last_no : (k : ℕ) (x : View) → x.complete ≡ 0 → last_of k x ≡ []
 last_no k x e = ap (λ (m : ℕ). last_if m k) e
+
+-- the views that are last ones
+abbrev pub is_last_view : View → Bool
+is_last_view x = not (x.complete == 0)
+
+pub lasts_size : (k : ℕ) (xs : List View) → length (each_view last_of k xs) ≡ 3 * length (filter is_last_view xs)
+lasts_size k [] = refl
+lasts_size k (x ∷ xs) =
+    let r = lasts_size (suc k) xs in
+    let a = length-append (last_of k x) (each_view last_of (suc k) xs) in
+    let b = one x.complete in
+    omega arith
+  where
+    one : (m : ℕ) → length (last_if m k) + 3 * length (filter is_last_view xs) ≡ 3 * length (cond (not (m == 0)) (x ∷ filter is_last_view xs) (filter is_last_view xs))
+    one zero = omega arith
+    one (suc m) =
+        let e = ap (λ (b : Bool). 3 * length (cond (not b) (x ∷ filter is_last_view xs) (filter is_last_view xs))) (ne_eqb (suc m) 0 (λ e. omega arith)) in
+        omega arith
 
 lasts_few : (k : ℕ) (xs : List View) → length (each_view last_of k xs) ≤ 3 * length xs
 lasts_few k [] = omega arith
@@ -137,8 +151,6 @@ tables_upto ts k (suc n) h = elim (cases_eq k (suc n)) [
 pub file_size : (code n : ℕ) (ts : List (List View)) → length (tables_file code n ts) ≡ 4 + length (tables_below ts n)
 file_size code n ts = let a = length-append (tables_below ts n) (90 ∷ []) in omega arith
 
--- the table of a party that was read from its place
-pub table_read : (ps : List PartyViews) (p i : ℕ) (x : PartyViews) (xs : List View) → p < length ps → i ≡ p → x ≡ get_or ps i x → xs ≡ nodes_in x
-    → xs ≡ table_at (tables_in ps) p
-table_read ps p i x xs h e r k =
-    k ∙ ap nodes_in (r ∙ ap (λ (j : ℕ). get_or ps j x) e) ∙ sym (get_or-map nodes_in ps p x [] h)
+-- the table of a party at its place
+pub table_read : (ps : List PartyViews) (p : ℕ) (x : PartyViews) → p < length ps → x ≡ get_or ps p x → nodes_in x ≡ table_at (tables_in ps) p
+table_read ps p x h e = ap nodes_in e ∙ sym (get_or-map nodes_in ps p x [] h)

@@ -89,7 +89,7 @@ module _ (f : Charts) (p : ℕ) (nodes : List View) (E : Earlier nodes) (S : Sho
       ap (λ (l : List ℕ). 80 ∷ p ∷ (l ++ each_view last_of 0 nodes)) moves_same
       ∙ ap (λ (l : List ℕ). 80 ∷ p ∷ (each_from (move_to (views_of p f)) 0 (views_of p f) ++ l)) lasts_same
 
-tables_same : (f : Charts) (ps : List PartyViews) (n : ℕ) → Shown f n (tables_in ps) → tables_below (tables_in ps) n ≡ parties_below f n
+pub tables_same : (f : Charts) (ps : List PartyViews) (n : ℕ) → Shown f n (tables_in ps) → tables_below (tables_in ps) n ≡ parties_below f n
 tables_same f ps zero S = refl
 tables_same f ps (suc n) S =
     ap (λ (l : List ℕ). l ++ table_bytes n (table_at (tables_in ps) n)) (tables_same f ps n (λ p h. S p (omega arith)))

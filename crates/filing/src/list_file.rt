@@ -1,22 +1,13 @@
-ghost use Rattle.std.specs.Prelude.{◌≡◌, ℕ, ◌+◌, ◌*◌, ◌≤◌, [], ◌∷◌, length};
+ghost use Rattle.std.specs.Prelude.{◌≡◌, ℕ, ◌≤◌, length};
 ghost use Rattle.chart.specs.Writing.{put};
+ghost use Rattle.chart.specs.Putting.{Fits, Puts};
 ghost use Rattle.search.specs.Kinds.{kind_number};
-ghost use Rattle.machines.specs.Files.{told_bytes, list_file_bytes};
+ghost use Rattle.machines.specs.Files.{list_file_bytes};
 
-use crate::bytes::letter_byte;
+use crate::bytes::told_bytes;
 use acts::Act;
+use chart::output::Output;
 use search::graph::Kind;
-
-// The number of a kind.
-fn kind_number(kind: Kind) -> u8
-    ensures { result ≡ kind_number kind }
-{
-    match kind {
-        Kind::Sound => 0,
-        Kind::BreaksCc2 => 1,
-        Kind::BreaksCc3 => 2,
-    }
-}
 
 // How many bytes the list file of so many acts has.
 pub fn list_length(acts: &[Act]) -> usize
@@ -26,15 +17,16 @@ pub fn list_length(acts: &[Act]) -> usize
     3 + 4 * acts.len()
 }
 
-// Puts an act with its party at an offset of the output.
-fn write_act(output: &mut [u8], at: usize, act: Act)
-    requires { at + 4 ≤ length output.old }
-    ensures { output.new ≡ put output.old at (told_bytes (act ∷ [])) }
+// Puts the list file of the acts, of this kind.
+fn put_list(output: &mut Output, kind: Kind, acts: &[Act])
+    requires { Fits output.old (list_file_bytes (kind_number kind) acts.now) }
+    ensures { Puts output.old (list_file_bytes (kind_number kind) acts.now) output.new }
 {
-    output[at] = letter_byte(act.letter);
-    output[at + 1] = act.party;
-    output[at + 2] = act.peer;
-    output[at + 3] = act.name;
+    output.put(&[b'W', u8::from(kind)]);
+    for act in acts {
+        output.put(&told_bytes(*act));
+    }
+    output.put(b"Z");
 }
 
 // Writes the list file of the acts, of this kind, at the output's front.
@@ -42,12 +34,5 @@ pub fn write_list(kind: Kind, acts: &[Act], output: &mut [u8])
     requires { length (list_file_bytes (kind_number kind) acts.now) ≤ length output.old }
     ensures { output.new ≡ put output.old 0 (list_file_bytes (kind_number kind) acts.now) }
 {
-    output[0] = b'W';
-    output[1] = kind_number(kind);
-    let mut end = 2;
-    for act in acts {
-        write_act(output, end, *act);
-        end += 4;
-    }
-    output[end] = b'Z';
+    put_list(&mut Output::new(output), kind, acts);
 }

@@ -1,27 +1,22 @@
-ghost use Rattle.std.specs.Prelude.{◌≡◌, ℕ, ◌+◌, ◌<◌, ◌≤◌, length};
+ghost use Rattle.std.specs.Prelude.{◌≡◌, ℕ, ◌≤◌, length};
 ghost use Rattle.chart.specs.Writing.{put};
+ghost use Rattle.chart.specs.Putting.{Fits, Puts};
 ghost use Rattle.families.specs.Judgement.{Charts};
-ghost use Rattle.machines.specs.Files.{move_bytes, last_bytes, machine_file_bytes};
-ghost use Rattle.views.specs.Parties.{tables_in};
+ghost use Rattle.machines.specs.Files.{machine_file_bytes};
+ghost use Rattle.views.specs.Parties.{nodes_in, tables_in};
 ghost use Rattle.filing.specs.Filed.{move_of, last_of, each_view, table_bytes, tables_file, Shown};
 
-use crate::bytes::{letter_byte, write_word};
+use crate::bytes::{last_bytes, move_bytes};
+use chart::output::Output;
 use views::party_views::PartyViews;
-use views::view::View;
 
 // How many bytes a party's views take.
-fn party_length(views: &[View]) -> usize
-    requires some { 0 < length views.now }
-    requires few { length views.now ≤ 257 }
-    ensures { (party : ℕ) → result ≡ length (table_bytes party views.now) }
+fn party_length(views: &PartyViews) -> usize
+    ensures { (party : ℕ) → result ≡ length (table_bytes party (nodes_in views.now)) }
 {
-    let mut length = 2 + 7 * (views.len() - 1);
-    for view in views {
-        if view.complete != 0 {
-            length += 3;
-        }
-    }
-    length
+    let views = views.views();
+    let lasts = views.iter().filter(|view| view.complete != 0).count();
+    2 + 7 * (views.len() - 1) + 3 * lasts
 }
 
 // How many bytes the machine file of the first parties has.
@@ -31,76 +26,55 @@ pub fn machines_length(parties: &[PartyViews], count: u8) -> usize
     ensures charts { (f : Charts) → Shown f count (tables_in parties.now) → (code : ℕ) → result ≡ length (machine_file_bytes code count f) }
 {
     let mut length = 4;
-    for party in 0..count {
-        length += party_length(parties[usize::from(party)].views());
+    for views in &parties[..usize::from(count)] {
+        length += party_length(views);
     }
     length
 }
 
-// Puts the move to a view, which has this number, at an offset of the output.
-fn write_move(output: &mut [u8], at: usize, number: u16, view: View)
-    requires { at + 7 ≤ length output.old }
-    ensures { output.new ≡ put output.old at (move_bytes view.lengthens number view.act) }
+// Puts the moves to a party's views.
+fn put_moves(output: &mut Output, views: &PartyViews)
+    requires { Fits output.old (each_view move_of 0 (nodes_in views.now)) }
+    ensures { Puts output.old (each_view move_of 0 (nodes_in views.now)) output.new }
 {
-    output[at] = letter_byte(view.act.letter);
-    write_word(output, at + 1, view.lengthens);
-    write_word(output, at + 3, number);
-    output[at + 5] = view.act.peer;
-    output[at + 6] = view.act.name;
-}
-
-// Puts the moves to a party's views at an offset of the output, and answers the offset behind them.
-fn write_moves(output: &mut [u8], at: usize, views: &[View]) -> usize
-    requires few { length views.now ≤ 257 }
-    requires room { at + length (each_view move_of 0 views.now) ≤ length output.old }
-    ensures output { output.new ≡ put output.old at (each_view move_of 0 views.now) }
-    ensures end { result ≡ at + length (each_view move_of 0 views.now) }
-{
-    let mut end = at;
-    for number in 1..views.len() {
-        write_move(output, end, number as u16, views[number]);
-        end += 7;
+    for (number, view) in views.views().iter().enumerate().skip(1) {
+        output.put(&move_bytes(number as u16, view));
     }
-    end
 }
 
-// Puts the number of a last view at an offset of the output.
-fn write_last(output: &mut [u8], at: usize, number: u16)
-    requires { at + 3 ≤ length output.old }
-    ensures { output.new ≡ put output.old at (last_bytes number) }
+// Puts the last views of a party.
+fn put_lasts(output: &mut Output, views: &PartyViews)
+    requires { Fits output.old (each_view last_of 0 (nodes_in views.now)) }
+    ensures { Puts output.old (each_view last_of 0 (nodes_in views.now)) output.new }
 {
-    output[at] = b'F';
-    write_word(output, at + 1, number);
-}
-
-// Puts the last views of a party at an offset of the output, and answers the offset behind them.
-fn write_lasts(output: &mut [u8], at: usize, views: &[View]) -> usize
-    requires few { length views.now ≤ 257 }
-    requires room { at + length (each_view last_of 0 views.now) ≤ length output.old }
-    ensures output { output.new ≡ put output.old at (each_view last_of 0 views.now) }
-    ensures end { result ≡ at + length (each_view last_of 0 views.now) }
-{
-    let mut end = at;
-    for number in 0..views.len() {
-        if views[number].complete != 0 {
-            write_last(output, end, number as u16);
-            end += 3;
+    for (number, view) in views.views().iter().enumerate() {
+        if view.complete != 0 {
+            output.put(&last_bytes(number as u16));
         }
     }
-    end
 }
 
-// Puts a party at an offset of the output, and answers the offset behind it.
-fn write_party(output: &mut [u8], at: usize, party: u8, views: &[View]) -> usize
-    requires few { length views.now ≤ 257 }
-    requires room { at + length (table_bytes party views.now) ≤ length output.old }
-    ensures output { output.new ≡ put output.old at (table_bytes party views.now) }
-    ensures end { result ≡ at + length (table_bytes party views.now) }
+// Puts a party.
+fn put_party(output: &mut Output, party: u8, views: &PartyViews)
+    requires { Fits output.old (table_bytes party (nodes_in views.now)) }
+    ensures { Puts output.old (table_bytes party (nodes_in views.now)) output.new }
 {
-    output[at] = b'P';
-    output[at + 1] = party;
-    let moved = write_moves(output, at + 2, views);
-    write_lasts(output, moved, views)
+    output.put(&[b'P', party]);
+    put_moves(output, views);
+    put_lasts(output, views);
+}
+
+// Puts the machine file of the first parties.
+fn put_machines(output: &mut Output, code: u8, count: u8, parties: &[PartyViews])
+    requires within { count ≤ length parties.now }
+    requires room { Fits output.old (tables_file code count (tables_in parties.now)) }
+    ensures { Puts output.old (tables_file code count (tables_in parties.now)) output.new }
+{
+    output.put(&[b'K', code, count]);
+    for (party, views) in (0..count).zip(parties) {
+        put_party(output, party, views);
+    }
+    output.put(b"Z");
 }
 
 // Writes the machine file of the first parties at the output's front.
@@ -110,12 +84,5 @@ pub fn write_machines(code: u8, count: u8, parties: &[PartyViews], output: &mut 
     ensures tables { output.new ≡ put output.old 0 (tables_file code count (tables_in parties.now)) }
     ensures charts { (f : Charts) → Shown f count (tables_in parties.now) → output.new ≡ put output.old 0 (machine_file_bytes code count f) }
 {
-    output[0] = b'K';
-    output[1] = code;
-    output[2] = count;
-    let mut end = 3;
-    for party in 0..count {
-        end = write_party(output, end, party, parties[usize::from(party)].views());
-    }
-    output[end] = b'Z';
+    put_machines(&mut Output::new(output), code, count, parties);
 }

@@ -1,39 +1,19 @@
-use Rattle.std.proofs.Common.{length, take, ap, arith}
-use Rattle.std.proofs.lemmas.List.{take_all}
-use Rattle.filing.specs.Filed.{last_of, each_view}
-use Rattle.filing.proofs.Rows.{table_size, table_few}
-use Rattle.filing.proofs.Putting.{last_end, last_fits, no_last}
+use Rattle.std.proofs.Common.{◌≡◌, length, ap, rules, arith}
+use borrow.Author.Tests.{tests}
+use Rattle.std.proofs.lemmas.Iterator.{YieldsList-from_slice}
+use Rattle.std.proofs.lemmas.Iterator.Consumers.{YieldsList-from_filter, YieldsList-at, count_from_yields_List}
+use Rattle.std.specs.List.{filter}
+use Rattle.views.specs.Parties.{nodes_in}
+use Rattle.filing.proofs.Rows.{is_last_view, lasts_size, table_size}
 use Rattle.filing.proofs.machine_file.party_length.Goals as goal
-use Rattle.filing.proofs.machine_file.party_length.Goals.{then-view-ne0, else-view-ne0}
-
-pub overflow_add-length-then-view-ne0 : goal.overflow_add-length-then-view-ne0
-overflow_add-length-then-view-ne0 c =
-    let xs = c.args.views.now in
-    let n = length (each_view last_of 0 (take c.loop-view.view-index xs)) in
-    let f = last_fits 0 n c.loop-view.view-index xs _ c.loop-view-test.true (omega arith) c.if-view-ne0.true in
-    let s = table_size 0 xs in
-    let b = table_few 0 xs c.requires.few in
-    let i = c.loop-view.invariant in
-    omega arith
-
-pub loop-view-preserved : goal.loop-view-preserved
-loop-view-preserved c =
-    let xs = c.args.views.now in
-    let n = length (each_view last_of 0 (take c.loop-view.view-index xs)) in
-    let i = c.loop-view.invariant in
-    elim c.if-view-ne0.branch [
-      | then-view-ne0 w ↦
-          let e = last_end 0 n c.loop-view.view-index xs _ c.loop-view-test.true (omega arith) w.if-view-ne0.true in
-          omega (arith, w.length-is)
-      | else-view-ne0 w ↦
-          let e = ap length (no_last 0 n c.loop-view.view-index xs _ c.loop-view-test.true (omega arith) w.if-view-ne0.false) in
-          omega (arith, w.length-is)
-    ]
 
 pub returns : goal.returns
 returns c p =
-    let xs = c.args.views.now in
+    let xs = nodes_in c.args.views.now in
+    let n = ap length c.views-views.ensures.value in
+    let k : c.count-lasts.result ≡ length (filter is_last_view xs) =
+    count_from_yields_List _ _ c.count-lasts.ensures.ran
+    (YieldsList-from_filter _ is_last_view (YieldsList-at c.filter.ensures.source (YieldsList-from_slice xs cc)) c.filter.ensures.closure (λ x r q h. search (rules, tests))) in
     let s = table_size p xs in
-    let a = ap (λ l. length (each_view last_of 0 l)) (take_all c.loop-view.view-index xs c.loop-view-test.false) in
-    let i = c.loop-view.invariant in
+    let l = lasts_size 0 xs in
     omega arith
