@@ -1,5 +1,5 @@
 use Rattle.std.proofs.Common.{◌≡◌, ℕ, ◌+◌, set, sym, ap, ◌∙◌}
-use Rattle.files.specs.Bytes.{byte_of_letter}
+use Rattle.acts.specs.Acts.{byte_of_letter}
 use Rattle.chart.proofs.Put.{put_three}
 use Rattle.chart.proofs.writer.write_act.Goals as goal
 use Rattle.chart.proofs.writer.write_act.Goals.{in-Send, in-Receive}
