@@ -12,7 +12,7 @@ use channel::channel::Channel;
 use chart::chart::Chart;
 use conversation::order::Order;
 use conversation::run::run;
-use fault::{BookCause, Fault, Layer};
+use fault::{BookCause, Fault};
 use std::alloc::{AllocError, Global};
 use std::array;
 
@@ -20,13 +20,10 @@ use std::array;
 const LAST_ID: u8 = 7;
 
 // A refusal of the book.
-fn refused(cause: BookCause, place: u64) -> Fault
+fn refused(cause: BookCause, place: usize) -> Fault
     ensures { Err result ≡ refusal cause place }
 {
-    Fault {
-        layer: Layer::Book(cause),
-        place,
-    }
+    Fault::new(cause, place)
 }
 
 impl<C: Channel + Drop> Book<C> {
@@ -88,22 +85,22 @@ impl<C: Channel> Book<C> {
     pub fn add(&mut self, id: u8, chart: Chart) -> Result<u8, Fault>
         ensures { Keeps (standing C.Channel.meaning self.old) (add id (lines_in chart)) result (standing C.Channel.meaning self.new) }
     {
-        if id > LAST_ID {
-            return Err(refused(BookCause::IdAbove, u64::from(id)));
-        }
         let slot = usize::from(id);
+        if id > LAST_ID {
+            return Err(refused(BookCause::IdAbove, slot));
+        }
         if self.charts[slot].is_some() {
-            return Err(refused(BookCause::IdTaken, u64::from(id)));
+            return Err(refused(BookCause::IdTaken, slot));
         }
         if let Some(parties) = self.other_parties(&chart) {
-            return Err(refused(BookCause::OtherParties, u64::from(parties)));
+            return Err(refused(BookCause::OtherParties, usize::from(parties)));
         }
         if let Some(equal) = self.equal_chart(&chart) {
-            return Err(refused(BookCause::EqualChart, equal as u64));
+            return Err(refused(BookCause::EqualChart, equal));
         }
         let most = run(&mut self.channel, &chart, &mut self.order);
         if most < chart.size() {
-            return Err(refused(BookCause::NoConversation, most as u64));
+            return Err(refused(BookCause::NoConversation, most));
         }
         Ok(self.place(slot, Some(chart)))
     }
@@ -112,12 +109,12 @@ impl<C: Channel> Book<C> {
     pub fn withdraw(&mut self, id: u8) -> Result<u8, Fault>
         ensures { Keeps (standing C.Channel.meaning self.old) (withdraw id) result (standing C.Channel.meaning self.new) }
     {
-        if id > LAST_ID {
-            return Err(refused(BookCause::IdAbove, u64::from(id)));
-        }
         let slot = usize::from(id);
+        if id > LAST_ID {
+            return Err(refused(BookCause::IdAbove, slot));
+        }
         if self.charts[slot].is_none() {
-            return Err(refused(BookCause::IdFree, u64::from(id)));
+            return Err(refused(BookCause::IdFree, slot));
         }
         Ok(self.place(slot, None))
     }

@@ -9,7 +9,7 @@ use crate::clerk::Clerk;
 use book::book::Book;
 use channel::channel::Channel;
 use chart::chart::Chart;
-use fault::{Fault, Layer, SessionCause};
+use fault::{Fault, SessionCause};
 use std::alloc::{AllocError, Global};
 
 // Reads a chart file and adds its chart under the id.
@@ -59,11 +59,7 @@ impl<'a, C: Channel> Clerk<'a, C> {
     fn stop(&mut self, cause: SessionCause, place: usize) -> Result<(), AllocError>
         ensures { IfOk result (λ _. Stops (course self.old) (answer_text 63 (Err (record { layer = Session cause; place = place }))) (course self.new)) }
     {
-        let fault = Fault {
-            layer: Layer::Session(cause),
-            place: place as u64,
-        };
-        write_answer(&mut self.text, "?", Err(fault))?;
+        write_answer(&mut self.text, "?", Err(Fault::new(cause, place)))?;
         self.place = self.session.len();
         Ok(())
     }

@@ -16,7 +16,7 @@ returns-then-is_some g c = λ G h P.
     let b = standing g.C.Channel.meaning c.args.self.now in
     let i = c.args.id in
     let taken : is_some (b.charts i) ≡ true = known_place c.args.self.now.charts i c.from-slot.result c.index-self-slot.result true (search rules) (search rules) c.index-self-slot.is (search rules) in
-    let same : c.from-then-is_some.result ≡ i = search rules in
+    let same : c.from-slot.result ≡ i = search rules in
     answered G h (add i (lines_in c.args.chart)) (Err c.refused-then-is_some.result) (refusal IdTaken i) b
     (c.refused-then-is_some.ensures ∙ ap (refusal IdTaken) same)
     (add_taken G h b P i c.if-id-gt-LAST_ID.false (lines_in c.args.chart) taken)
@@ -28,7 +28,7 @@ returns-in-Some g c = λ G h P.
     let cl = lines_in c.args.chart in
     let free : is_some (b.charts i) ≡ false = known_place c.args.self.now.charts i c.from-slot.result c.index-self-slot.result false (search rules) (search rules) c.index-self-slot.is (search rules) in
     let n = c.in-Some.parties in
-    let same : c.from-in-Some.result ≡ n = search rules in
+    let same : c.from.result ≡ n = search rules in
     answered G h (add i cl) (Err c.refused-in-Some.result) (refusal OtherParties n) b
     (c.refused-in-Some.ensures ∙ ap (refusal OtherParties) same)
     (add_others G h b P i c.if-id-gt-LAST_ID.false cl free n c.in-Some.ensures)
