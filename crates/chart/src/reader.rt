@@ -23,6 +23,8 @@ pub struct Reader<'s, 'f> {
     cursor: Cursor<'f>,
 }
 
+// `Due` stays a clause: it holds only until the command is taken, and a struct for so long only
+// wraps the reader.
 impl Reader<'_, '_> {
     // C: the number of parties.
     fn open(&mut self) -> Result<ControlFlow<()>, Fault>

@@ -10,7 +10,3 @@ pub loop-act-preserved : goal.loop-act-preserved
 loop-act-preserved c =
     act_more c.args.output.now c.loop-act.output c.write_act.new.output c.args.party c.loop-act.act-index c.args.acts.now _ c.requires
     c.loop-act-test.true c.loop-act.invariant c.write_act.ensures
-
-pub returns : goal.returns
-returns c =
-    line_whole c.args.output.now c.loop-act.output c.args.party c.loop-act.act-index c.args.acts.now c.loop-act-test.false c.loop-act.invariant

@@ -16,12 +16,6 @@ loop-party-preserved c =
     line_more c.args.output.now c.loop-party.output c.write_line.new.output c.loop-party.party cl c.line.result.now c.requires
     (omega (arith, c.parties-party-end.ensures.count, c.loop-party-test.true)) c.line.ensures.acts c.loop-party.invariant c.write_line.ensures
 
-pub put-requires-2 : goal.put-requires-2
-put-requires-2 c =
-    let cl : Lines = lines_in c.args.self.now in
-    end_room c.args.output.now c.loop-party.output c.loop-party.party cl c.requires
-    (omega (arith, c.parties-party-end.ensures.count, c.loop-party-test.false)) c.loop-party.invariant
-
 pub returns : goal.returns
 returns c =
     let cl : Lines = lines_in c.args.self.now in

@@ -14,10 +14,3 @@ returns-in_err-check c =
     let h = c.in_ok-fill.ensures in
     let r : Refused c.args.file.now f = subst (λ (x : List ℕ). Refused x f) h.1 (c.in_err-check.ensures h.0) in
     rw (p.1, p.2) (r, refl)
-
-pub invariant_of-self-2 : goal.invariant_of-self-2
-invariant_of-self-2 c =
-    let h = c.in_ok-fill.ensures in
-    let k : IsChart (lines_of c.swap.new.x) =
-    subst (λ (x : Sheet). IsChart (lines_of x)) (sym c.swap.ensures.x_after) (c.in_ok-check.ensures h.0) in
-    record { lined = ∣ k.lined ∣₁; paired = k.paired; playable = ∣ k.playable ∣₁ }
