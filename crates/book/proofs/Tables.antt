@@ -1,5 +1,5 @@
 -- The table of charts in a book: its reads, its writes, how many it holds.
-use Rattle.std.proofs.Common.{◌≡◌, ℕ, ◌+◌, ◌<◌, ◌≤◌, cond, eqb, List, length, get_or, set, is_some, Some, None, Option, sym, refl, ap, ◌∙◌, inl, inr, add-one, arith}
+use Rattle.std.proofs.Common.{◌≡◌, ℕ, ◌+◌, ◌<◌, ◌≤◌, Bool, cond, eqb, List, length, get_or, set, is_some, Some, None, Option, sym, refl, ap, ◌∙◌, inl, inr, add-one, arith}
 use Rattle.std.proofs.lemmas.List.{get_or-set_same, get_or-set_other, get_or_default, get_or_past}
 use Rattle.std.proofs.lemmas.Bool.{cases_Bool, cases_lt, cond-true, cond-false, eqb-true, eqb-false}
 use Rattle.acts.specs.Acts.{Lines}
@@ -19,12 +19,10 @@ shown-some (Some c) = refl
 read : (cs : List (Option Chart)) (i : ℕ) (q : Option Chart) → i < length cs → q ≡ get_or cs i q → table_of cs i ≡ shown q
 read cs i q h e = ap shown (get_or_default cs i None q h ∙ sym e)
 
-pub read_some : (cs : List (Option Chart)) (i : ℕ) (q : Option Chart) → i < length cs → q ≡ get_or cs i q → is_some (table_of cs i) ≡ is_some q
-read_some cs i q h e = ap is_some (read cs i q h e) ∙ shown-some q
-
--- the same by the place of an id
-pub read_at : (cs : List (Option Chart)) (i k : ℕ) (q : Option Chart) → k ≡ i → k < length cs → q ≡ get_or cs k q → is_some (table_of cs i) ≡ is_some q
-read_at cs i k q at h e = ap (λ (j : ℕ). is_some (table_of cs j)) (sym at) ∙ read_some cs k q h e
+-- whether a chart stands under an id is known from its place
+pub known_place : (cs : List (Option Chart)) (i k : ℕ) (q : Option Chart) (t : Bool) → k ≡ i → k < length cs → q ≡ get_or cs k q → is_some q ≡ t
+    → is_some (table_of cs i) ≡ t
+known_place cs i k q t at h e f = ap (λ (j : ℕ). is_some (table_of cs j)) (sym at) ∙ ap is_some (read cs k q h e) ∙ shown-some q ∙ f
 
 -- past its end the table is empty
 past_none : (cs : List (Option Chart)) (i : ℕ) → length cs ≤ i → table_of cs i ≡ None

@@ -1,7 +1,7 @@
 -- Messages by their numbers.
-use Rattle.std.proofs.Common.{◌≡◌, ℕ, ◌<◌, ◌≤◌, Some, None, Option, MatchOption, sym, refl, subst, arith}
+use Rattle.std.proofs.Common.{◌≡◌, ℕ, ◌<◌, ◌≤◌, Some, None, Option, MatchOption, sym, refl, subst, ◌∙◌, arith}
 use Rattle.acts.specs.declared.Message.{Message}
-use Rattle.acts.specs.Acts.{Known, Lines, rank_of}
+use Rattle.acts.specs.Acts.{Known, rank_of, Lines}
 use Rattle.lines.specs.Charts.{Pairs, FirstUnpaired, KnownPaired}
 
 -- a message's number tells it from all others
@@ -16,14 +16,16 @@ rank_same t u k j e =
 pub record UnpairedAt (c : Lines) (k : ℕ) : Type 0 where
   pub message : Message
   pub known : Known message
-  pub number : rank_of message ≡ k
+  pub number : k < 1152 → rank_of message ≡ k
   pub unpaired : Pairs c message.sender message.receiver message.name → ⊥
 
 abbrev pub PairedAt : Lines → ℕ → Type 0
 PairedAt c k = (t : Message) → Known t → rank_of t ≡ k → Pairs c t.sender t.receiver t.name
 
-pub paired_at : (c : Lines) (k : ℕ) (t : Message) → Known t → rank_of t ≡ k → Pairs c t.sender t.receiver t.name → PairedAt c k
-paired_at c k t j e p u i f = subst (λ (v : Message). Pairs c v.sender v.receiver v.name) (sym (rank_same u t i j (omega arith))) p
+pub paired_at : (c : Lines) (k : ℕ) (t : Message) → Known t → (k < 1152 → rank_of t ≡ k) → Pairs c t.sender t.receiver t.name → PairedAt c k
+paired_at c k t j e p u i f =
+    let s = i.sender in let r = i.receiver in let m = i.name in
+    subst (λ (v : Message). Pairs c v.sender v.receiver v.name) (sym (rank_same u t i j (f ∙ sym (e (omega arith))))) p
 
 -- the first number below 1152 whose message is not paired
 pub first_of : (c : Lines) (r : Option ℕ)
@@ -35,7 +37,7 @@ first_of c (Some i) h =
     record {
       message = u.message;
       known = u.known;
-      number = u.number;
+      number = u.number h.1;
       unpaired = u.unpaired;
       least = λ t j l. h.3 (rank_of t) (omega arith) l t j refl;
     }
