@@ -1,5 +1,5 @@
 -- Acts, the parts of a list of acts, and how many of a message it sends and receives.
-use Rattle.std.specs.Prelude.{◌≡◌, ℕ, suc, ◌<◌, Bool, true, false, cond, ◌&&◌, ◌≢◌, List, [], ◌∷◌, ◌++◌, ◌==◌, slice_index_or}
+use Rattle.std.specs.Prelude.{◌≡◌, ℕ, suc, ◌+◌, ◌*◌, ◌<◌, Bool, true, false, cond, ◌&&◌, ◌≢◌, List, [], ◌∷◌, ◌++◌, ◌==◌, slice_index_or}
 use Rattle.acts.specs.declared.Act.{Act}
 use Rattle.acts.specs.declared.Message.{Message}
 use Rattle.acts.specs.declared.Letter.{Letter}
@@ -27,6 +27,21 @@ message_of a = record {
   receiver = to a.letter a.party a.peer;
   name = a.name;
 }
+
+-- the byte of a letter: S and R
+abbrev pub byte_of_letter : Letter → ℕ
+byte_of_letter Send = 83
+byte_of_letter Receive = 82
+
+-- messages are numbered by sender, then receiver, then name
+abbrev pub rank_of : Message → ℕ
+rank_of t = (t.sender * 6 + t.receiver) * 32 + t.name
+
+-- a message between two of six parties
+pub record Known (t : Message) : Type 0 where
+  pub sender : t.sender < 6
+  pub receiver : t.receiver < 6
+  pub name : t.name < 32
 
 -- the part of a party in a list: its acts there, in order
 abbrev pub part : ℕ → List Act → List Act

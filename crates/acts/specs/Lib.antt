@@ -2,3 +2,4 @@ pub mod Acts
 pub mod Order
 pub mod Language
 pub mod Theorems
+pub mod Words

@@ -1,19 +1,35 @@
 #![tactic(auto)]
 
-ghost use Rattle.std.specs.Prelude.{◌≡◌, true, ◌↔◌};
-ghost use Rattle.acts.specs.Acts.{message_of, send_of, receive_of};
+ghost use Rattle.std.specs.Prelude.{◌≡◌, ◌<◌, true, ◌↔◌, Some};
+ghost use Rattle.acts.specs.Acts.{message_of, send_of, receive_of, byte_of_letter, Known, rank_of};
+ghost use Rattle.acts.specs.Words.{words_of};
 ghost use Rattle.acts.specs.Order.{Sooner, OrderIsStrict};
 ghost use Rattle.acts.specs.Theorems.{PartsDecide, Completion, StuckIsLongest, PlayingOrders, RunIsLongest};
 
+use std::fmt;
+
 // What a party does with a message.
-#[derive(Clone, Copy, PartialEq, Eq, Debug)]
+#[derive(Clone, Copy, PartialEq, Eq, PartialOrd, Ord, Debug)]
 pub enum Letter {
     Send,
     Receive,
 }
 
-// A party sends a message to its peer, or receives one from it.
-#[derive(Clone, Copy, PartialEq, Eq, Debug)]
+// The letter's byte in a file.
+impl From<Letter> for u8 {
+    ghost from_gives = { λ letter byte. byte ≡ byte_of_letter letter };
+
+    fn from(letter: Letter) -> u8 {
+        match letter {
+            Letter::Send => b'S',
+            Letter::Receive => b'R',
+        }
+    }
+}
+
+// A party sends a message to its peer, or receives one from it. Acts are ordered by party, then send
+// before receive, then peer, then name, which is the order of these fields.
+#[derive(Clone, Copy, PartialEq, Eq, PartialOrd, Ord, Debug)]
 pub struct Act {
     pub party: u8,
     pub letter: Letter,
@@ -27,6 +43,28 @@ pub struct Message {
     pub sender: u8,
     pub receiver: u8,
     pub name: u8,
+}
+
+// How many names there are.
+const NAMES: u64 = 32;
+
+// The most parties.
+const PARTIES: u64 = 6;
+
+impl Message {
+    // The message with a number, by sender, then receiver, then name; the numbers of all messages
+    // between six parties are below 1152, and it goes round from there.
+    pub fn numbered(number: u64) -> Message
+        ensures known { Known result }
+        ensures number { number < 1152 → rank_of result ≡ number }
+    {
+        let pair = number / NAMES;
+        Message {
+            sender: (pair / PARTIES % PARTIES) as u8,
+            receiver: (pair % PARTIES) as u8,
+            name: (number % NAMES) as u8,
+        }
+    }
 }
 
 impl Act {
@@ -52,39 +90,35 @@ impl Act {
     pub fn sends(self, message: Message) -> bool
         ensures { result ≡ send_of message.sender message.receiver message.name self }
     {
-        match self.letter {
-            Letter::Send => self.message() == message,
-            Letter::Receive => false,
-        }
+        self.letter == Letter::Send && self.message() == message
     }
 
     // Whether the act receives the message.
     pub fn receives(self, message: Message) -> bool
         ensures { result ≡ receive_of message.sender message.receiver message.name self }
     {
-        match self.letter {
-            Letter::Send => false,
-            Letter::Receive => self.message() == message,
-        }
+        self.letter == Letter::Receive && self.message() == message
     }
 
-    // Whether the act comes first in the order of acts: by party, then send before receive, then
-    // peer, then name.
+    // Whether the act comes first in the order of acts.
     pub fn precedes(self, other: Act) -> bool
         ensures { (result ≡ true) ↔ Sooner self other }
     {
-        if self.party != other.party {
-            return self.party < other.party;
+        self < other
+    }
+}
+
+// What the party of the act does, in words.
+impl fmt::Display for Act {
+    ghost output = { λ act. Some (words_of act) };
+
+    fn fmt<W: fmt::Write>(&self, f: &mut fmt::Formatter<W>) -> fmt::Result {
+        let name = self.name;
+        let peer = self.peer;
+        match self.letter {
+            Letter::Send => write!(f, "sends {name} to {peer}"),
+            Letter::Receive => write!(f, "receives {name} from {peer}"),
         }
-        match (self.letter, other.letter) {
-            (Letter::Send, Letter::Receive) => return true,
-            (Letter::Receive, Letter::Send) => return false,
-            _ => {}
-        }
-        if self.peer != other.peer {
-            return self.peer < other.peer;
-        }
-        self.name < other.name
     }
 }
 

@@ -2,4 +2,5 @@ pub mod Rows
 pub mod Reached
 pub mod Kept
 pub mod Put
+pub mod Putting
 pub mod Compared

@@ -1,3 +1,4 @@
 pub mod Steps
 pub mod Writing
 pub mod Of
+pub mod Putting

@@ -2,5 +2,6 @@
 
 pub mod chart;
 mod cursor;
+pub mod output;
 mod reader;
 mod writer;

@@ -1,7 +1,8 @@
 ghost use Rattle.std.specs.Prelude.{◌≡◌, ℕ, ◌+◌, ◌^◌, ◌<◌, ◌≤◌, true, false, length, drop, MatchResult, slice_index};
 ghost use Rattle.lines.specs.Charts.{Lined, IsChart};
 ghost use Rattle.lines.specs.Of.{lines_of};
-ghost use Rattle.files.specs.Bytes.{file_of, byte_of_letter};
+ghost use Rattle.files.specs.Bytes.{file_of};
+ghost use Rattle.acts.specs.Acts.{byte_of_letter};
 ghost use Rattle.fault.specs.declared.FileCause.TheVariants.{GoesOn};
 ghost use Rattle.files.specs.Answers.{BadFile, Refused, file_fault};
 ghost use Rattle.chart.specs.Steps.{Taken, stage_of};

@@ -1,34 +1,29 @@
-ghost use Rattle.std.specs.Prelude.{◌≡◌, ◌+◌, ◌*◌, ◌≤◌, length};
-ghost use Rattle.files.specs.Bytes.{act_bytes, acts_bytes, line_bytes};
-ghost use Rattle.chart.specs.Writing.{put};
+ghost use Rattle.std.specs.Prelude.{◌≡◌};
+ghost use Rattle.files.specs.Bytes.{act_bytes, line_bytes};
+ghost use Rattle.chart.specs.Putting.{Fits, Puts};
 
+use crate::output::Output;
 use acts::{Act, Letter};
 
-// Puts an act at an offset of the output.
-fn write_act(output: &mut [u8], at: usize, act: Act)
-    requires { at + 3 ≤ length output.old }
-    ensures { output.new ≡ put output.old at (act_bytes act) }
+// Puts an act.
+fn write_act(output: &mut Output, act: Act)
+    requires { Fits output.old (act_bytes act) }
+    ensures { Puts output.old (act_bytes act) output.new }
 {
-    output[at] = match act.letter {
+    let letter = match act.letter {
         Letter::Send => b'S',
         Letter::Receive => b'R',
     };
-    output[at + 1] = act.peer;
-    output[at + 2] = act.name;
+    output.put(&[letter, act.peer, act.name]);
 }
 
-// Puts a party's line at an offset of the output, and answers the offset behind it.
-pub fn write_line(output: &mut [u8], at: usize, party: u8, acts: &[Act]) -> usize
-    requires { at + (2 + 3 * length acts.now) ≤ length output.old }
-    ensures output { output.new ≡ put output.old at (line_bytes party acts.now) }
-    ensures end { result ≡ at + (2 + 3 * length acts.now) }
+// Puts a party's line.
+pub fn write_line(output: &mut Output, party: u8, acts: &[Act])
+    requires { Fits output.old (line_bytes party acts.now) }
+    ensures { Puts output.old (line_bytes party acts.now) output.new }
 {
-    output[at] = b'L';
-    output[at + 1] = party;
-    let mut end = at + 2;
+    output.put(&[b'L', party]);
     for act in acts {
-        write_act(output, end, *act);
-        end += 3;
+        write_act(output, *act);
     }
-    end
 }

@@ -1,7 +1,12 @@
 #![tactic(auto)]
 
-ghost use Rattle.std.specs.Prelude.{◌≡◌};
+ghost use Rattle.std.specs.Prelude.{◌≡◌, Some};
 ghost use Rattle.fault.specs.Numbers.{number_of};
+ghost use Rattle.fault.specs.declared.Layer.{Layer};
+ghost use Rattle.fault.specs.Words.{layer_words, fault_words};
+
+use std::error::Error;
+use std::fmt;
 
 // What spoils a file as bytes.
 #[derive(Clone, Copy, PartialEq, Eq, Debug)]
@@ -88,6 +93,47 @@ pub enum Layer {
     Session(SessionCause),
 }
 
+// A layer takes its own causes.
+impl From<FileCause> for Layer {
+    ghost from_gives = { λ cause layer. layer ≡ Layer.File cause };
+
+    fn from(cause: FileCause) -> Layer {
+        Layer::File(cause)
+    }
+}
+
+impl From<ChartCause> for Layer {
+    ghost from_gives = { λ cause layer. layer ≡ Layer.Chart cause };
+
+    fn from(cause: ChartCause) -> Layer {
+        Layer::Chart(cause)
+    }
+}
+
+impl From<ChannelCause> for Layer {
+    ghost from_gives = { λ cause layer. layer ≡ Layer.Channel cause };
+
+    fn from(cause: ChannelCause) -> Layer {
+        Layer::Channel(cause)
+    }
+}
+
+impl From<BookCause> for Layer {
+    ghost from_gives = { λ cause layer. layer ≡ Layer.Book cause };
+
+    fn from(cause: BookCause) -> Layer {
+        Layer::Book(cause)
+    }
+}
+
+impl From<SessionCause> for Layer {
+    ghost from_gives = { λ cause layer. layer ≡ Layer.Session cause };
+
+    fn from(cause: SessionCause) -> Layer {
+        Layer::Session(cause)
+    }
+}
+
 // A refusal: the layer that found it, and the place that it found it at.
 #[derive(Clone, Copy, PartialEq, Eq, Debug)]
 pub struct Fault {
@@ -96,6 +142,17 @@ pub struct Fault {
 }
 
 impl Fault {
+    // The fault that a layer found at a place.
+    pub fn new<C: Into<Layer>>(cause: C, place: usize) -> Fault
+        ensures layer { C.converts cause result.layer }
+        ensures place { result.place ≡ place }
+    {
+        Fault {
+            layer: cause.into(),
+            place: place as u64,
+        }
+    }
+
     // The number by which the refusal is known.
     pub fn number(self) -> u8
         ensures { result ≡ number_of self.layer }
@@ -129,3 +186,54 @@ impl Fault {
         }
     }
 }
+
+// What the layer found, in words.
+impl fmt::Display for Layer {
+    ghost output = { λ layer. Some (layer_words layer) };
+
+    fn fmt<W: fmt::Write>(&self, f: &mut fmt::Formatter<W>) -> fmt::Result {
+        f.write_str(match self {
+            Layer::File(FileCause::Ends) => "the file ends where more is due",
+            Layer::File(FileCause::NotAllowed) => "this command is not allowed here",
+            Layer::File(FileCause::OutOfRange) => "this operand is out of range",
+            Layer::File(FileCause::LineFull) => "this would be the 33rd act of its line",
+            Layer::File(FileCause::GoesOn) => "the chart is complete, and bytes follow",
+            Layer::Chart(ChartCause::NotPaired) =>
+                "a message is not sent as often as it is received",
+            Layer::Chart(ChartCause::NotPlayable) => "no playing order holds all acts",
+            Layer::Channel(ChannelCause::Denied) => "the channel does not grant the act",
+            Layer::Book(BookCause::InPlay) => "a play is on",
+            Layer::Book(BookCause::IdAbove) => "the id is above 7",
+            Layer::Book(BookCause::IdTaken) => "the id names a held chart",
+            Layer::Book(BookCause::OtherParties) => "a held chart has another number of parties",
+            Layer::Book(BookCause::EqualChart) => "an equal chart is held",
+            Layer::Book(BookCause::NoConversation) =>
+                "the chart has no conversation over the channel",
+            Layer::Book(BookCause::IdFree) => "the id names no held chart",
+            Layer::Book(BookCause::NothingHeld) => "no chart is held",
+            Layer::Book(BookCause::TooManyTuples) => "there are too many tuples of views",
+            Layer::Book(BookCause::OutputShort) => "the output is too short",
+            Layer::Book(BookCause::NoVerdict) => "no judge of kind 0 stands",
+            Layer::Book(BookCause::AtRest) => "no play is on",
+            Layer::Book(BookCause::OperandOutOfRange) => "an operand is out of range",
+            Layer::Book(BookCause::NoView) => "the party's acts make no view",
+            Layer::Book(BookCause::NotAtEnd) => "the play is not at an end",
+            Layer::Session(SessionCause::UnknownLetter) => "no command has this letter",
+            Layer::Session(SessionCause::CutShort) => "the session ends inside a command",
+        })
+    }
+}
+
+// The refusal in words: its number, its place, and what was found.
+impl fmt::Display for Fault {
+    ghost output = { λ fault. Some (fault_words fault) };
+
+    fn fmt<W: fmt::Write>(&self, f: &mut fmt::Formatter<W>) -> fmt::Result {
+        let number = self.number();
+        let place = self.place;
+        let found = self.layer;
+        write!(f, "refused with {number} at {place}: {found}")
+    }
+}
+
+impl Error for Fault {}

@@ -3,11 +3,11 @@ use Rattle.std.proofs.Common.{◌≡◌, ℕ, zero, suc, ◌/◌, ◌%◌, ◌<�
 use Rattle.std.proofs.lemmas.Bool.{both_ways, eqb-true, eqb-false, eq-eqb, ne_eqb, cases_lt, cases_order, cond-true, cond-false}
 use Rattle.fault.specs.declared.ChartCause.TheVariants.{NotPaired, NotPlayable}
 use Rattle.acts.specs.declared.Message.{Message}
-use Rattle.acts.specs.Acts.{sends, receives, Lines, line}
+use Rattle.acts.specs.Acts.{sends, receives, Lines, line, rank_of, Known}
 use Rattle.acts.specs.Language.{plays, size}
 use Rattle.acts.proofs.Playing.{plays_diamond}
 use Rattle.acts.proofs.Running.{run-longest, longest_same}
-use Rattle.lines.specs.Charts.{Lined, Pairs, Paired, rank_of, Known, FirstUnpaired, LongestOrder, IsChart}
+use Rattle.lines.specs.Charts.{Lined, Pairs, Paired, FirstUnpaired, LongestOrder, IsChart}
 use Rattle.files.specs.Bytes.{file_of}
 use Rattle.files.specs.Answers.{chart_fault, not_paired, not_playable, Answers}
 use Rattle.files.specs.Reading.{pairs, earlier, unpaired, longest, played, judged}

@@ -7,10 +7,10 @@ use Rattle.fault.specs.declared.Fault.{Fault}
 use Rattle.acts.specs.declared.Act.{Act}
 use Rattle.acts.specs.declared.Letter.{Letter}
 use Rattle.acts.specs.declared.Letter.TheVariants.{Send, Receive}
-use Rattle.acts.specs.Acts.{InRange, Lines}
+use Rattle.acts.specs.Acts.{InRange, Lines, byte_of_letter}
 use Rattle.lines.specs.Charts.{Fine, Begun, Lined, newest, lengthened}
 use Rattle.lines.proofs.Sheets.{newest_last, lengthened_last}
-use Rattle.files.specs.Bytes.{byte_of_letter, act_bytes, acts_bytes, lines_bytes, front_bytes, file_of}
+use Rattle.files.specs.Bytes.{act_bytes, acts_bytes, lines_bytes, front_bytes, file_of}
 use Rattle.files.specs.Rules.{Stage, outset, Sound, so_far, operands, wrong, grown}
 use Rattle.files.specs.Reading.{ended, unless, scan, reading}
 use Rattle.files.proofs.Lined.{RightAct}

@@ -1,14 +1,7 @@
 -- The bytes of a chart file.
 use Rattle.std.specs.Prelude.{ℕ, suc, List, [], ◌∷◌, ◌++◌, length}
 use Rattle.acts.specs.declared.Act.{Act}
-use Rattle.acts.specs.declared.Letter.{Letter}
-use Rattle.acts.specs.declared.Letter.TheVariants.{Send, Receive}
-use Rattle.acts.specs.Acts.{Lines}
-
--- S and R
-abbrev pub byte_of_letter : Letter → ℕ
-byte_of_letter Send = 83
-byte_of_letter Receive = 82
+use Rattle.acts.specs.Acts.{byte_of_letter, Lines}
 
 -- an act: its letter, its peer and its name
 abbrev pub act_bytes : Act → List ℕ

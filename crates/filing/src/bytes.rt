@@ -1,5 +1,5 @@
 ghost use Rattle.std.specs.Prelude.{◌≡◌, ◌+◌, ◌≤◌, length};
-ghost use Rattle.files.specs.Bytes.{byte_of_letter};
+ghost use Rattle.acts.specs.Acts.{byte_of_letter};
 ghost use Rattle.chart.specs.Writing.{put};
 ghost use Rattle.machines.specs.Files.{word};
 

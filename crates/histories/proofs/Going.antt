@@ -4,9 +4,8 @@ use Rattle.std.proofs.lemmas.Bool.{false≢true, both_ways, or_cases, eqb-true}
 use Rattle.acts.specs.declared.Act.{Act}
 use Rattle.acts.specs.declared.Letter.{Letter}
 use Rattle.acts.specs.declared.Letter.TheVariants.{Send, Receive}
-use Rattle.acts.specs.Acts.{InRange, part, Quiet, Lines, line}
+use Rattle.acts.specs.Acts.{InRange, part, Quiet, Lines, line, byte_of_letter}
 use Rattle.acts.proofs.Parts.{part_own, part-++}
-use Rattle.files.specs.Bytes.{byte_of_letter}
 use Rattle.files.specs.Rules.{is_act, letter_of}
 use Rattle.channel.specs.Meaning.{Lawful}
 use Rattle.conversation.specs.Conversations.{Conversation}

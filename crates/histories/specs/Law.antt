@@ -2,9 +2,8 @@
 use Rattle.std.specs.Prelude.{◌≡◌, ℕ, ◌*◌, ◌<◌, ◌≤◌, Bool, true, ◌⊎◌, ◌↔◌, List, [], ◌∷◌, ◌++◌, length, Some, None, Ok, Err, Option, ◌≢◌}
 use Rattle.fault.specs.declared.Fault.{Fault}
 use Rattle.acts.specs.declared.Act.{Act}
-use Rattle.acts.specs.Acts.{part, Quiet, Lines}
+use Rattle.acts.specs.Acts.{part, Quiet, Lines, byte_of_letter}
 use Rattle.lines.specs.Charts.{IsChart}
-use Rattle.files.specs.Bytes.{byte_of_letter}
 use Rattle.channel.specs.Meaning.{Lawful}
 use Rattle.conversation.specs.Conversations.{Conversation, Talks}
 use Rattle.families.specs.Judgement.{View, LastView, HeldConversation, BeginsHeld}

@@ -1,7 +1,7 @@
 -- Messages by their numbers.
 use Rattle.std.proofs.Common.{◌≡◌, arith}
 use Rattle.acts.specs.declared.Message.{Message}
-use Rattle.lines.specs.Charts.{Known, rank_of}
+use Rattle.acts.specs.Acts.{Known, rank_of}
 
 -- a message's number tells it from all others
 pub rank_same : (t u : Message) → Known t → Known u → rank_of t ≡ rank_of u → t ≡ u

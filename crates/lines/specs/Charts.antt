@@ -3,7 +3,7 @@ use Rattle.std.specs.Prelude.{◌≡◌, ℕ, ◌+◌, ◌*◌, ◌<◌, ◌≤�
 use Rattle.std.specs.List.{AllByRecursion}
 use Rattle.acts.specs.declared.Act.{Act}
 use Rattle.acts.specs.declared.Message.{Message}
-use Rattle.acts.specs.Acts.{InRange, part, sends, receives, Lines, line, Along}
+use Rattle.acts.specs.Acts.{InRange, Known, rank_of, part, sends, receives, Lines, line, Along}
 use Rattle.acts.specs.Language.{Causal}
 
 -- the line of the party p among n: at most 32 acts, all in range and all its own
@@ -29,16 +29,6 @@ Pairs c s r m = sends s r m (line c s) ≡ receives s r m (line c r)
 -- every message is paired
 abbrev pub Paired : Lines → Type 0
 Paired c = (s r m : ℕ) → Pairs c s r m
-
--- messages are numbered by sender, then receiver, then name
-abbrev pub rank_of : Message → ℕ
-rank_of t = (t.sender * 6 + t.receiver) * 32 + t.name
-
--- a message between two of six parties
-pub record Known (t : Message) : Type 0 where
-  pub sender : t.sender < 6
-  pub receiver : t.receiver < 6
-  pub name : t.name < 32
 
 -- k is the number of a message that is not paired, and every message with a lower number is
 pub record FirstUnpaired (c : Lines) (k : ℕ) : Type 0 where

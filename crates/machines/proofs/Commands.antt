@@ -4,7 +4,7 @@ use Rattle.acts.specs.declared.Act.{Act}
 use Rattle.acts.specs.declared.Letter.{Letter}
 use Rattle.acts.specs.declared.Letter.TheVariants.{Send, Receive}
 use Rattle.acts.specs.Language.{maybe}
-use Rattle.files.specs.Bytes.{byte_of_letter}
+use Rattle.acts.specs.Acts.{byte_of_letter}
 use Rattle.families.specs.Judgement.{Charts}
 use Rattle.families.specs.Tests.{is_last}
 use Rattle.numbering.specs.Numbering.{place, views_of}

@@ -5,8 +5,7 @@ use Rattle.std.proofs.ByRecursion.{All-append}
 use Rattle.acts.specs.declared.Act.{Act}
 use Rattle.acts.specs.declared.Letter.{Letter}
 use Rattle.acts.specs.declared.Letter.TheVariants.{Send, Receive}
-use Rattle.acts.specs.Acts.{InRange}
-use Rattle.files.specs.Bytes.{byte_of_letter}
+use Rattle.acts.specs.Acts.{InRange, byte_of_letter}
 use Rattle.families.specs.Judgement.{Charts, View, Judgeable}
 use Rattle.families.specs.Tests.{same_acts, is_last}
 use Rattle.families.proofs.Agreement.{few_parties}

@@ -3,7 +3,7 @@ use Rattle.std.proofs.Common.{◌≡◌, ℕ, suc, ◌+◌, ◌<◌, Bool, true,
 use Rattle.std.proofs.lemmas.List.{take_more}
 use Rattle.std.proofs.lemmas.Bool.{cond-true, cond-false}
 use Rattle.acts.specs.declared.Act.{Act}
-use Rattle.files.specs.Bytes.{byte_of_letter}
+use Rattle.acts.specs.Acts.{byte_of_letter}
 use Rattle.families.specs.Judgement.{Charts}
 use Rattle.numbering.specs.Numbering.{place}
 use Rattle.machines.specs.Files.{move_bytes, move_to, last_bytes, last_at, each_from, party_bytes, parties_below, told_bytes}

@@ -2,7 +2,7 @@
 use Rattle.std.specs.Prelude.{ℕ, zero, suc, ◌/◌, ◌%◌, Bool, cond, List, [], ◌∷◌, ◌++◌, Some, None, Option}
 use Rattle.acts.specs.declared.Act.{Act}
 use Rattle.acts.specs.Language.{maybe}
-use Rattle.files.specs.Bytes.{byte_of_letter}
+use Rattle.acts.specs.Acts.{byte_of_letter}
 use Rattle.families.specs.Judgement.{Charts}
 use Rattle.families.specs.Tests.{is_last}
 use Rattle.numbering.specs.Numbering.{place, views_of}

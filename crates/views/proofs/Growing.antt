@@ -40,6 +40,22 @@ remasked [] at y e = refl
 remasked (z ∷ xs) zero y e = refl
 remasked (z ∷ xs) (suc at) y e = same_spelling ([] ∷ []) (set xs at y) xs (length-set xs at y) (λ k l. e (suc k))
 
+-- what a table keeps when its masks change
+pub record Sound (nodes : List View) : Type 0 where
+  pub earlier : Earlier nodes
+  pub apart : Apart (spelled nodes)
+  pub short : (k : ℕ) → length (get_or (spelled nodes) k []) ≤ 32
+
+pub remasked_sound : (nodes : List View) → Sound nodes → (at : ℕ) → at < length nodes → (x : View) → x ≡ get_or nodes at x
+    → (y : View) → y.lengthens ≡ x.lengthens → y.act ≡ x.act → Sound (set nodes at y)
+remasked_sound nodes S at h x is y l a =
+    let same = remasked nodes at y (remasked_each nodes at h x is y l a) in
+    record {
+      earlier = remasked_earlier nodes at h x is y l a S.earlier;
+      apart = subst Apart (sym same) S.apart;
+      short = λ k. subst (λ (vs : List (List Act)). length (get_or vs k []) ≤ 32) (sym same) (S.short k);
+    }
+
 -- one view more
 module _ (nodes : List View) (some : 0 < length nodes) (E : Earlier nodes) (A : Apart (spelled nodes)) (at : ℕ) (below : at < length nodes) (a : Act)
     (x : View) (lengthens : x.lengthens ≡ at) (act : x.act ≡ a) where

@@ -1,6 +1,7 @@
 use acts::{Act, Letter};
 
 // A view of a party: a beginning of its line in some chart. It lengthens an earlier view by an act.
+// Views name each other by number, since the machine file and a search's tuples tell these numbers.
 #[derive(Clone, Copy)]
 pub struct View {
     pub lengthens: u16,
@@ -11,6 +12,7 @@ pub struct View {
 }
 
 // View 0, the empty one: its act counts for nothing.
+// An Option there would be no plainer: whoever reads a later view's act would have to open it.
 pub const EMPTY: View = View {
     lengthens: 0,
     act: Act {

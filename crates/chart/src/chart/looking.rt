@@ -2,6 +2,7 @@ ghost use Rattle.std.specs.Prelude.{◌≡◌, ◌≤◌, true, ◌↔◌, List,
 ghost use Rattle.acts.specs.Acts.{line};
 ghost use Rattle.acts.specs.Language.{size};
 ghost use Rattle.lines.specs.Charts.{IsChart};
+ghost use Rattle.lines.specs.Of.{lines_of};
 ghost use Rattle.chart.specs.Of.{lines_in};
 
 use crate::chart::Chart;
@@ -17,6 +18,13 @@ impl Chart {
         let sheet = Sheet::new(heap)?;
         let spare = Sheet::new(heap)?;
         Ok(Chart { sheet, spare })
+    }
+
+    // The chart's lines.
+    pub fn sheet(&self) -> &Sheet
+        ensures { lines_of result.now ≡ lines_in self.now }
+    {
+        &self.sheet
     }
 
     // How many parties the chart has.

@@ -3,9 +3,11 @@ ghost use Rattle.acts.specs.Acts.{Lines};
 ghost use Rattle.files.specs.Answers.{ChartFile, Refused};
 ghost use Rattle.files.specs.Bytes.{file_of};
 ghost use Rattle.chart.specs.Of.{lines_in};
+ghost use Rattle.chart.specs.Putting.{Fits, Puts};
 ghost use Rattle.chart.specs.Writing.{Written};
 
 use crate::chart::Chart;
+use crate::output::Output;
 use crate::reader::{check, fill};
 use crate::writer::write_line;
 use fault::{BookCause, Fault, Layer};
@@ -30,6 +32,18 @@ impl Chart {
         3 + 2 * usize::from(self.parties()) + 3 * self.size()
     }
 
+    // Puts the chart's file.
+    fn put(&self, output: &mut Output)
+        requires { Fits output.old (file_of (lines_in self.now)) }
+        ensures { Puts output.old (file_of (lines_in self.now)) output.new }
+    {
+        output.put(&[b'C', self.parties()]);
+        for party in 0..self.parties() {
+            write_line(output, party, self.line(party));
+        }
+        output.put(&[b'Z']);
+    }
+
     // Writes the chart's file at the output's front, and answers its length. An output that is too
     // short stays as it was.
     pub fn write(&self, output: &mut [u8]) -> Result<usize, Fault>
@@ -42,14 +56,7 @@ impl Chart {
                 place: due as u64,
             });
         }
-        let parties = self.parties();
-        output[0] = b'C';
-        output[1] = parties;
-        let mut end = 2;
-        for party in 0..parties {
-            end = write_line(output, end, party, self.line(party));
-        }
-        output[end] = b'Z';
+        self.put(&mut Output::new(output));
         Ok(due)
     }
 }

@@ -1,6 +1,7 @@
 ghost use Rattle.std.specs.Prelude.{◌≡◌, ℕ, ◌<◌, true, ◌↔◌, MatchOption};
 ghost use Rattle.acts.specs.declared.Message.{Message};
-ghost use Rattle.lines.specs.Charts.{Known, Pairs, rank_of, FirstUnpaired, KnownPaired};
+ghost use Rattle.lines.specs.Charts.{Pairs, FirstUnpaired, KnownPaired};
+ghost use Rattle.acts.specs.Acts.{Known, rank_of};
 ghost use Rattle.lines.specs.Of.{lines_of};
 
 use crate::counting::{receives_of, sends_of};

@@ -46,13 +46,10 @@ impl PartyViews {
     pub fn child(&self, at: usize, act: Act) -> Option<usize>
         ensures { MatchOption result (NoChild self.now.views.items at act) (λ k. Child self.now.views.items at act k) }
     {
-        for k in 1..self.views.len() {
-            let view = self.views[k];
-            if usize::from(view.lengthens) == at && view.act == act {
-                return Some(k);
-            }
-        }
-        None
+        self.views[1..]
+            .iter()
+            .position(|view| usize::from(view.lengthens) == at && view.act == act)
+            .map(|place| place + 1)
     }
 
     // The view that lengthens the view `at` by the act, which is new where there was none.
@@ -78,26 +75,6 @@ impl PartyViews {
         number
     }
 
-    // The view is a beginning of another chart's line.
-    fn mark(&mut self, at: usize, bit: u8)
-        requires { at < vec_len self.old.views }
-        ensures { self.new.views.items ≡ slice_set self.old.views.items at (in_chart (slice_index_or self.old.views.items at root) bit) }
-    {
-        let mut view = self.views[at];
-        view.charts |= bit;
-        self.views[at] = view;
-    }
-
-    // The view is another chart's whole line.
-    fn finish(&mut self, at: usize, bit: u8)
-        requires { at < vec_len self.old.views }
-        ensures { self.new.views.items ≡ slice_set self.old.views.items at (completing (slice_index_or self.old.views.items at root) bit) }
-    {
-        let mut view = self.views[at];
-        view.complete |= bit;
-        self.views[at] = view;
-    }
-
     // Notes every beginning of a line but the empty one, with the bit of the line's chart, and
     // answers the view that the whole line is.
     fn walk(&mut self, line: &[Act], bit: u8) -> usize
@@ -109,7 +86,7 @@ impl PartyViews {
         let mut at = 0;
         for act in line {
             at = self.lengthened(at, *act);
-            self.mark(at, bit);
+            self.views[at].charts |= bit;
         }
         at
     }
@@ -120,19 +97,18 @@ impl PartyViews {
         requires short { length line.now ≤ 32 }
         ensures { Entered self.old.views.items line.now bit self.new.views.items }
     {
-        self.mark(0, bit);
+        self.views[0].charts |= bit;
         let whole = self.walk(line, bit);
-        self.finish(whole, bit);
+        self.views[whole].complete |= bit;
     }
 
     // The party's views in the charts, which stand under their ids.
-    pub fn build(&mut self, charts: &[Option<Chart>], party: u8)
-        requires { length charts.now ≡ 8 }
+    pub fn build(&mut self, charts: &[Option<Chart>; 8], party: u8)
         ensures { Shows (table_of charts.now) party self.new.views.items }
     {
         self.restart();
-        for id in 0..8usize {
-            if let Some(chart) = &charts[id] {
+        for (id, chart) in charts.iter().enumerate() {
+            if let Some(chart) = chart {
                 self.enter_line(chart.line(party), 1 << id);
             }
         }

@@ -2,7 +2,7 @@ use Rattle.std.proofs.Common.{◌≡◌, ℕ, ltb, ◌∙◌, rules}
 use Rattle.std.proofs.lemmas.Bool.{le-ltb}
 use Rattle.acts.specs.declared.Letter.{Letter}
 use Rattle.acts.specs.declared.Letter.TheVariants.{Send, Receive}
-use Rattle.files.specs.Bytes.{byte_of_letter}
+use Rattle.acts.specs.Acts.{byte_of_letter}
 use Rattle.files.specs.Rules.{allowed}
 use Rattle.chart.specs.Steps.{stage_of}
 use Rattle.chart.proofs.Rows.{allowed_s, allowed_r, not_allowed}

@@ -1,7 +1,8 @@
 use Rattle.std.proofs.Common.{sym, refl, subst, inl, inr, arith}
 use Rattle.std.proofs.lemmas.Bool.{cases_lt}
 use Rattle.acts.specs.declared.Message.{Message}
-use Rattle.lines.specs.Charts.{Pairs, rank_of}
+use Rattle.lines.specs.Charts.{Pairs}
+use Rattle.acts.specs.Acts.{rank_of}
 use Rattle.lines.specs.Of.{lines_of}
 use Rattle.lines.proofs.Pairings.{rank_same}
 use Rattle.lines.proofs.sheet.Sheet.first_unpaired.Goals as goal

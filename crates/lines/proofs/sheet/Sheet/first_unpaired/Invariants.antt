@@ -1,6 +1,7 @@
 use Rattle.std.proofs.Common.{◌<◌}
 use Rattle.acts.specs.declared.Message.{Message}
-use Rattle.lines.specs.Charts.{Known, Pairs, rank_of}
+use Rattle.lines.specs.Charts.{Pairs}
+use Rattle.acts.specs.Acts.{Known, rank_of}
 use Rattle.lines.specs.Of.{lines_of}
 use Rattle.lines.proofs.sheet.Sheet.first_unpaired.Given as goal
 

@@ -27,10 +27,12 @@ loop-id-preserved c =
     let id = c.loop-id.id in
     let i = c.loop-id.invariant in
     let was : List View = vec_items c.loop-id.self.views in
-    let lt : id < length charts = let h = c.loop-id-test.true in let q = c.requires in omega arith in
-    let at : get_or charts id None ≡ c.index-charts-id.result = sym (get_or_read charts id c.index-charts-id.result lt c.index-charts-id.is None) in
+    let eight : length charts ≡ 8 = c.type_inv.charts in
+    let lt : id < length charts = let h = c.loop-id-test.true in omega arith in
+    let x = c.index-charts-id.result in
+    let at : get_or charts id None ≡ get_or charts id x = sym (get_or_read charts id x lt c.index-charts-id.is None) ∙ c.index-charts-id.is in
     let Next : PartyViews → Type 0 = λ s. (vec_len s.views ≤ 1 + 32 * (id + 1)) × ShowsBelow f p (id + 1) (vec_items s.views) in
-    elim c.match-charts-id.branch [
+    elim c.match-chart.branch [
       | in-Some w ↦
           let e : f id ≡ Some (lines_in w.in-Some.chart) = ap shown (at ∙ w.in-Some.is) in
           let E : Entered was (line (lines_in w.in-Some.chart) p) _ (vec_items w.enter_line.new.self.views) =
