@@ -1,5 +1,6 @@
 -- What a chain over the slots of a book gives: how many charts there are, and the first that has another number of parties.
 use Rattle.std.proofs.Common.{◌≡◌, ℕ, zero, suc, ◌+◌, ◌≤◌, Bool, true, false, cond, not, eqb, List, [], ◌∷◌, length, map, is_some, Some, None, Option, MatchBool, MatchOption, sym, refl, ap, ◌∙◌, subst, arith}
+use Rattle.std.proofs.lemmas.Option.{none-some}
 use Rattle.std.proofs.lemmas.Bool.{eqb-true, eqb-false}
 use Rattle.std.specs.List.{find, flat_map}
 use Rattle.std.specs.Option.{option_to_list, option_copied}
@@ -13,7 +14,7 @@ use Rattle.chart.specs.Of.{lines_in}
 use Rattle.book.specs.History.{counted}
 use Rattle.book.specs.Past.{shown, table_of}
 use Rattle.book.specs.Finding.{AsMany, NotAsMany}
-use Rattle.book.proofs.Tables.{none-some, some_same}
+use Rattle.book.proofs.Tables.{some_same}
 
 spent : {A : Type 0} (b : Bool) (i : Option A) → MatchBool b (◌≡◌ {A = Option (Bor A)} None None) (None ≡ i) → length (cond b [] (option_to_list i)) ≡ 0
 spent true i k = refl

@@ -1,7 +1,7 @@
 -- One command of a session: it is cut short, unknown, or done.
-use Rattle.std.proofs.Common.{◌≡◌, ℕ, zero, suc, ◌+◌, ◌-◌, ◌*◌, ◌<◌, ◌≤◌, Bool, true, false, cond, eqb, ltb, List, [], ◌++◌, length, get_or, take, drop, Result, sym, refl, ap, ◌∙◌, subst, append-nil, arith}
+use Rattle.std.proofs.Common.{◌≡◌, ℕ, zero, suc, ◌+◌, ◌*◌, ◌<◌, ◌≤◌, Bool, true, false, eqb, ltb, List, [], ◌++◌, length, get_or, take, drop, Result, sym, refl, ap, ◌∙◌, subst, append-nil, arith}
 use Rattle.std.proofs.lemmas.List.{length-drop, drop-drop}
-use Rattle.std.proofs.lemmas.Bool.{lt-ltb, le-ltb, eq-eqb, ne_eqb}
+use Rattle.std.proofs.lemmas.Bool.{cond-true, cond-false, lt-ltb, le-ltb, eq-eqb, ne_eqb}
 use Rattle.fault.specs.declared.Fault.{Fault}
 use Rattle.acts.specs.declared.Act.{Act}
 use Rattle.files.specs.Reading.{reading}
@@ -9,23 +9,17 @@ use Rattle.book.specs.History.{withdraw, Answer, History, then, held}
 use Rattle.book.specs.Right.{Right}
 use Rattle.answering.specs.Answering.{answered}
 use Rattle.answering.proofs.Only.{only_withdraw}
-use Rattle.book.specs.Past.{Standing, Past}
+use Rattle.book.specs.Past.{Past}
 use Rattle.session.specs.Lines.{answer_text}
 use Rattle.session.specs.Sessions.{adds, called, cut_at, unknown_at, file_length, transcript}
 use Rattle.session.specs.Course.{Course}
 use Rattle.session.specs.Stepping.{Added, Stops, left, Stepped}
 
-yes_cond : {X : Type 0} (b : Bool) (x y : X) → b ≡ true → cond b x y ≡ x
-yes_cond b x y e = ap (λ (t : Bool). cond t x y) e
-
-no_cond : {X : Type 0} (b : Bool) (x y : X) → b ≡ false → cond b x y ≡ y
-no_cond b x y e = ap (λ (t : Bool). cond t x y) e
-
 -- at the end of the bytes nothing follows
 pub nothing_left : (k : ℕ) (G : List Act → Bool) (h : History) (session : List ℕ) (place : ℕ) → length session ≤ place → left k G h session place ≡ []
 nothing_left zero G h session place e = refl
 nothing_left (suc k) G h session place e =
-    yes_cond (eqb (length (drop place session)) 0) _ _ (eq-eqb (length (drop place session)) 0 (let d = length-drop place session in omega arith))
+    cond-true (eqb (length (drop place session)) 0) _ _ (eq-eqb (length (drop place session)) 0 (let d = length-drop place session in omega arith))
 
 module _ (G : List Act → Bool) (h : History) (was is : Course) (within : was.place < length was.session) where
   abbrev rest : List ℕ
@@ -54,17 +48,17 @@ module _ (G : List Act → Bool) (h : History) (was is : Course) (within : was.p
     -- A without its operands, or without all bytes of its file
     cut_a : length rest < 4 → (k : ℕ) → left (suc k) G h was.session was.place ≡ cut_at (length was.session)
     cut_a c k =
-        no_cond (eqb (length rest) 0) _ _ some
-        ∙ yes_cond (eqb (get_or rest 0 0) 65) _ _ letter_a
-        ∙ yes_cond (ltb (length rest) 4) _ _ (lt-ltb (length rest) 4 c)
+        cond-false (eqb (length rest) 0) _ _ some
+        ∙ cond-true (eqb (get_or rest 0 0) 65) _ _ letter_a
+        ∙ cond-true (ltb (length rest) 4) _ _ (lt-ltb (length rest) 4 c)
 
     cut_file : 4 ≤ length rest → length rest < 4 + file_length rest → (k : ℕ)
         → left (suc k) G h was.session was.place ≡ cut_at (length was.session)
     cut_file l c k =
-        no_cond (eqb (length rest) 0) _ _ some
-        ∙ yes_cond (eqb (get_or rest 0 0) 65) _ _ letter_a
-        ∙ no_cond (ltb (length rest) 4) _ _ (le-ltb (length rest) 4 l)
-        ∙ yes_cond (ltb (length rest) (4 + file_length rest)) _ _ (lt-ltb (length rest) (4 + file_length rest) c)
+        cond-false (eqb (length rest) 0) _ _ some
+        ∙ cond-true (eqb (get_or rest 0 0) 65) _ _ letter_a
+        ∙ cond-false (ltb (length rest) 4) _ _ (le-ltb (length rest) 4 l)
+        ∙ cond-true (ltb (length rest) (4 + file_length rest)) _ _ (lt-ltb (length rest) (4 + file_length rest) c)
 
     added_on : (file : List ℕ) (r : Result ℕ Fault) → is.session ≡ was.session → 4 + file_length rest ≤ length rest
         → file ≡ take (file_length rest) (drop 4 rest) → is.place ≡ was.place + (4 + file_length rest) → Added G h (get_or rest 1 0) file r is.book
@@ -81,10 +75,10 @@ module _ (G : List Act → Bool) (h : History) (was is : Course) (within : was.p
           onward = omega arith;
           within = omega arith;
           rest = λ k.
-              no_cond (eqb (length rest) 0) _ _ some
-              ∙ yes_cond (eqb (get_or rest 0 0) 65) _ _ letter_a
-              ∙ no_cond (ltb (length rest) 4) _ _ (le-ltb (length rest) 4 (omega arith))
-              ∙ no_cond (ltb (length rest) (4 + file_length rest)) _ _ (le-ltb (length rest) (4 + file_length rest) l)
+              cond-false (eqb (length rest) 0) _ _ some
+              ∙ cond-true (eqb (get_or rest 0 0) 65) _ _ letter_a
+              ∙ cond-false (ltb (length rest) 4) _ _ (le-ltb (length rest) 4 (omega arith))
+              ∙ cond-false (ltb (length rest) (4 + file_length rest)) _ _ (le-ltb (length rest) (4 + file_length rest) l)
               ∙ ap (λ (y : List ℕ). (adds G h (get_or rest 1 0) (reading y)).line
               ++ transcript k G (adds G h (get_or rest 1 0) (reading y)).past (length was.session) (was.place + (4 + file_length rest)) (drop (4 + file_length rest) rest)) (sym f)
               ∙ ap (λ (y : List ℕ). o.line ++ transcript k G o.past (length was.session) (was.place + (4 + file_length rest)) y) (drop-drop (4 + file_length rest) was.place was.session)
@@ -124,10 +118,10 @@ module _ (G : List Act → Bool) (h : History) (was is : Course) (within : was.p
     -- W without its operand
     cut_w : length rest < 2 → (k : ℕ) → left (suc k) G h was.session was.place ≡ cut_at (length was.session)
     cut_w c k =
-        no_cond (eqb (length rest) 0) _ _ some
-        ∙ no_cond (eqb (get_or rest 0 0) 65) _ _ letter_w.0
-        ∙ yes_cond (eqb (get_or rest 0 0) 87) _ _ letter_w.1
-        ∙ yes_cond (ltb (length rest) 2) _ _ (lt-ltb (length rest) 2 c)
+        cond-false (eqb (length rest) 0) _ _ some
+        ∙ cond-false (eqb (get_or rest 0 0) 65) _ _ letter_w.0
+        ∙ cond-true (eqb (get_or rest 0 0) 87) _ _ letter_w.1
+        ∙ cond-true (ltb (length rest) 2) _ _ (lt-ltb (length rest) 2 c)
 
     -- the same, as the code has it: r is what stands there
     pub cut_short_w : (r : List ℕ) → r ≡ rest → length r < 2 → (k : ℕ) → left (suc k) G h was.session was.place ≡ cut_at (length was.session)
@@ -152,10 +146,10 @@ module _ (G : List Act → Bool) (h : History) (was is : Course) (within : was.p
           onward = omega arith;
           within = omega arith;
           rest = λ k.
-              no_cond (eqb (length rest) 0) _ _ some
-              ∙ no_cond (eqb (get_or rest 0 0) 65) _ _ letter_w.0
-              ∙ yes_cond (eqb (get_or rest 0 0) 87) _ _ letter_w.1
-              ∙ no_cond (ltb (length rest) 2) _ _ (le-ltb (length rest) 2 (omega arith))
+              cond-false (eqb (length rest) 0) _ _ some
+              ∙ cond-false (eqb (get_or rest 0 0) 65) _ _ letter_w.0
+              ∙ cond-true (eqb (get_or rest 0 0) 87) _ _ letter_w.1
+              ∙ cond-false (ltb (length rest) 2) _ _ (le-ltb (length rest) 2 (omega arith))
               ∙ ap (λ (y : ℕ). (called G 87 h (withdraw y)).line ++ transcript k G (called G 87 h (withdraw y)).past (length was.session) (was.place + 2) (drop 2 rest)) (sym id')
               ∙ ap (λ (y : List ℕ). o.line ++ transcript k G o.past (length was.session) (was.place + 2) y) (drop-drop 2 was.place was.session)
               ∙ ap (λ (y : ℕ). o.line ++ transcript k G o.past (length was.session) y (drop y was.session)) (sym to);
@@ -166,6 +160,6 @@ module _ (G : List Act → Bool) (h : History) (was is : Course) (within : was.p
       → left (suc k) G h was.session was.place ≡ unknown_at was.place
   unknown r er a w k =
       let e = ap (λ (y : List ℕ). get_or y 0 0) er in
-      no_cond (eqb (length rest) 0) _ _ some
-      ∙ no_cond (eqb (get_or rest 0 0) 65) _ _ (ne_eqb (get_or rest 0 0) 65 (λ x. a (e ∙ x)))
-      ∙ no_cond (eqb (get_or rest 0 0) 87) _ _ (ne_eqb (get_or rest 0 0) 87 (λ x. w (e ∙ x)))
+      cond-false (eqb (length rest) 0) _ _ some
+      ∙ cond-false (eqb (get_or rest 0 0) 65) _ _ (ne_eqb (get_or rest 0 0) 65 (λ x. a (e ∙ x)))
+      ∙ cond-false (eqb (get_or rest 0 0) 87) _ _ (ne_eqb (get_or rest 0 0) 87 (λ x. w (e ∙ x)))

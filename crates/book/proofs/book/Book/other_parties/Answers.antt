@@ -1,4 +1,4 @@
-use Rattle.std.proofs.Common.{◌≡◌, ℕ, not, eqb, length, map, sym, ◌∙◌, subst, rules, tests}
+use Rattle.std.proofs.Common.{◌≡◌, not, eqb, length, map, sym, ◌∙◌, subst, rules, tests}
 use Rattle.std.specs.Option.{option_to_list, option_map}
 use Rattle.std.specs.List.{find, flat_map}
 use Rattle.chart.specs.declared.chart.Chart.{Chart}
