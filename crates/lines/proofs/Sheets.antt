@@ -1,10 +1,10 @@
 -- The lines that have begun, as the first of six stored ones.
-use Rattle.std.proofs.Common.{◌≡◌, ℕ, ◌+◌, ◌<◌, ◌≤◌, List, [], ◌∷◌, ◌++◌, map, length, take, refl, ap, ◌∙◌, arith}
+use Rattle.std.proofs.Common.{◌≡◌, ℕ, ◌≤◌, List, [], ◌∷◌, ◌++◌, map, length, take, refl, ap, ◌∙◌, arith}
 use Rattle.std.specs.List.{sum_by}
 use Rattle.std.proofs.lemmas.List.Recursion.{is_sum_by}
-use Rattle.std.proofs.lemmas.List.{length-map, take-map, length-take-le, take_more}
+use Rattle.std.proofs.lemmas.List.{length-map, take-map, length-take-le}
 use Rattle.acts.specs.declared.Act.{Act}
-use Rattle.acts.specs.Acts.{Lines, line}
+use Rattle.acts.specs.Acts.{Lines}
 use Rattle.acts.specs.Language.{size}
 use Rattle.lines.specs.Charts.{newest, lengthened}
 
@@ -24,14 +24,3 @@ count f items k h = length-take-le k (map f items) (let e = length-map items f i
 -- the acts of all lines, line by line
 pub size_sum : {X : Type 0} (f : X → List Act) (items : List X) (k : ℕ) → size (take k (map f items)) ≡ sum_by (λ x. length (f x)) (take k items)
 size_sum f items k = ap size (take-map f k items) ∙ is_sum_by (λ xs. size (map f xs)) (λ x. length (f x)) refl (λ x xs. refl) (take k items)
-
-size-push : (c : Lines) (l : List Act) → size (c ++ (l ∷ [])) ≡ size c + length l
-size-push [] l = omega arith
-size-push (k ∷ c) l = let e = size-push c l in omega arith
-
--- the acts of one line more
-pub size_more : (c : Lines) (p n : ℕ) (l : List Act) → p < length c → l ≡ line c p → n ≡ size (take p c) → n + length l ≡ size (take (p + 1) c)
-size_more c p n l h e k =
-    let f : size (take (p + 1) c) ≡ size (take p c) + length (line c p) = ap size (take_more c p [] h) ∙ size-push (take p c) (line c p) in
-    let g = ap length e in
-    omega arith

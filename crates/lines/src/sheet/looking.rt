@@ -37,9 +37,7 @@ impl Sheet {
     pub fn size(&self) -> usize
         ensures { result ≡ size (lines_of self.now) }
     {
-        self.lines[..usize::from(self.begun)]
-            .iter()
-            .map(|line| line.acts().len())
-            .sum()
+        let begun = &self.lines[..usize::from(self.begun)];
+        begun.iter().map(|line| line.acts().len()).sum()
     }
 }
