@@ -1,8 +1,14 @@
 -- The files as they are put into an output, piece by piece.
-use Rattle.std.proofs.Common.{◌≡◌, ℕ, ◌+◌, ◌-◌, ◌<◌, ◌≤◌, List, [], ◌∷◌, ◌++◌, length, get_or, take, sym, ap, ◌∙◌, subst, append-nil, arith, length-append}
+use Rattle.std.proofs.Common.{◌≡◌, ℕ, Iter, ◌+◌, ◌-◌, ◌<◌, ◌≤◌, List, [], ◌∷◌, ◌++◌, length, get_or, take, sym, ap, ◌∙◌, subst, append-nil, arith, length-append}
 use Rattle.std.proofs.lemmas.List.{take_all, length-take-le}
 use Rattle.std.proofs.lemmas.List.FromFn.{length-range_with_len, get_or-range_with_len}
 use Rattle.std.proofs.lemmas.Slice.Zip.{length-zip, get_or-zip}
+use Rattle.std.proofs.iter.Yields.{fronts, nat_range_steps}
+use Rattle.std.proofs.lemmas.Iterator.{YieldsList, YieldsList-from_slice, YieldsList-from_range, YieldsList-from_zip, zips}
+use Rattle.std.specs.Iterator.Adapters.{zip_first, zip_second}
+use Rattle.std.specs.Slice.Iter.{iter_rest}
+use Rattle.std.specs.declared.iter.Zip.{Zip}
+use Rattle.std.specs.declared.ops.Range.{Range}
 use Rattle.std.specs.List.{zip, range_with_len}
 use Rattle.acts.specs.declared.Act.{Act}
 use Rattle.chart.specs.declared.output.Output.{Output}
@@ -81,6 +87,11 @@ module _ (a b : Output) (p : ℕ) (xs : List View) (room : Fits a (table_bytes p
     party_puts d l =
         let n = length-append (each_view move_of 0 xs) (each_view last_of 0 xs) in
         puts-more a c d (80 ∷ p ∷ each_view move_of 0 xs) (each_view last_of 0 xs) (omega arith) moved l
+
+-- what the parties' numbers and the parties give side by side
+pub numbered_parties : (ps : List PartyViews) (n : ℕ) {s : Zip (Range ℕ) (Iter PartyViews)} → zip_first s ≡ record { start = 0; end = n } → iter_rest (zip_second s) ≡ ps
+    → YieldsList (zips nat_range_steps fronts) (λ p. (p.0, p.1.now)) s (zip (range_with_len 0 n) ps)
+numbered_parties ps n first second = YieldsList-from_zip (YieldsList-from_range 0 n n first (omega arith)) (YieldsList-from_slice ps second)
 
 -- a party that comes with its number after i others
 pub record IsParty (ps : List PartyViews) (n i p : ℕ) (x : PartyViews) : Type 0 where

@@ -1,6 +1,14 @@
 -- The best of the views that are looked at; and how many are left.
-use Rattle.std.proofs.Common.{◌≡◌, ℕ, zero, suc, ◌+◌, ◌-◌, ◌<◌, ◌≤◌, Bool, true, false, cond, ◌&&◌, ◌==◌, eqb, ltb, List, [], ◌∷◌, length, get_or, drop, Some, None, Option, MatchOption, sym, refl, ap, ◌∙◌, subst, inl, inr, arith}
+use Rattle.std.proofs.Common.{◌≡◌, ℕ, zero, suc, ◌+◌, ◌-◌, ◌<◌, ◌≤◌, Bool, true, false, cond, ◌&&◌, ◌==◌, eqb, ltb, List, [], ◌∷◌, length, get_or, drop, Some, None, Option, MatchOption, Iter, sym, refl, ap, ◌∙◌, subst, inl, inr, arith}
 use Rattle.std.proofs.lemmas.List.FromFn.{length-enumerate_from, get_or-enumerate_from}
+use Rattle.std.proofs.iter.Yields.{fronts}
+use Rattle.std.proofs.lemmas.Iterator.{YieldsList, YieldsList-from_slice}
+use Rattle.std.proofs.lemmas.Iterator.Consumers.{YieldsList-from_enumerate, YieldsList-at}
+use Rattle.std.proofs.lemmas.Iterator.Adapters.{YieldsList-from_skip}
+use Rattle.std.specs.Iterator.Adapters.{enumerate_source, enumerate_count, enumerate_steps, skip_source, skip_count, skip_steps}
+use Rattle.std.specs.Slice.Iter.{iter_rest}
+use Rattle.std.specs.declared.iter.Enumerate.{Enumerate}
+use Rattle.std.specs.declared.iter.Skip.{Skip}
 use Rattle.std.specs.List.{enumerate_from, filter}
 use Rattle.std.specs.Option.{option_map}
 use Rattle.std.specs.Ordering.{is_lt}
@@ -55,6 +63,12 @@ numbered_at (x ∷ xs) (suc k) d p h =
     ap (λ (i : ℕ). get_or (enumerate_from (0 + 1) xs) i d) m
     ∙ get_or-enumerate_from (0 + 1) xs k d (omega arith)
     ∙ ap (λ (i : ℕ). (i, get_or xs k d.1)) e
+
+-- what `iter().enumerate().skip(1)` gives
+pub later_views : (nodes : List View) {i : Iter View} {e : Enumerate (Iter View)} {s : Skip (Enumerate (Iter View))} → iter_rest i ≡ nodes → enumerate_source e ≡ i
+    → enumerate_count e ≡ 0 → skip_source s ≡ e → skip_count s ≡ 1 → YieldsList (skip_steps (enumerate_steps fronts)) (λ p. (p.0, p.1.now)) s (numbered nodes)
+later_views nodes rest source count from skipped =
+    YieldsList-from_skip 1 (YieldsList-at from (YieldsList-from_enumerate (YieldsList-at source (YieldsList-from_slice nodes rest)) count)) skipped
 
 -- a test that is passed passes both parts
 parts : (a b : Bool) → (a && b) ≡ true → (a ≡ true) × (b ≡ true)

@@ -1,9 +1,8 @@
-use Rattle.std.proofs.Common.{length, arith}
+use Rattle.std.proofs.Common.{length}
 use Rattle.std.proofs.lemmas.List.{length_push}
-use Rattle.std.proofs.lemmas.Iterator.{YieldsList-from_slice, YieldsList-from_range, YieldsList-from_zip}
 use Rattle.std.proofs.lemmas.Iterator.Consumers.{YieldsList-at, YieldsList-turn, YieldsList-end}
 use Rattle.views.specs.Parties.{nodes_in, tables_in}
-use Rattle.filing.proofs.Putting.{is_party, parties_all, table_fits, table_puts, last_fits, file_puts}
+use Rattle.filing.proofs.Putting.{numbered_parties, is_party, parties_all, table_fits, table_puts, last_fits, file_puts}
 use Rattle.filing.proofs.machine_file.put_machines.Goals as goal
 
 pub put_party-requires : goal.put_party-requires
@@ -11,11 +10,10 @@ put_party-requires c =
     let ps = c.args.parties.now in
     let n = c.args.count in
     let i = c.loop-party in
+    let parties = numbered_parties ps n c.zip-party-items.ensures.first c.zip-party-items.ensures.second.0 in
     let p = c.in-Some.party in
     let x = c.in-Some.views.now in
-    let turn = YieldsList-turn
-    (YieldsList-at c.into_iter-party-iterator.ensures.into_iter_gives
-    (YieldsList-from_zip (YieldsList-from_range 0 n n c.zip-party-items.ensures.first (omega arith)) (YieldsList-from_slice ps c.zip-party-items.ensures.second.0)))
+    let turn = YieldsList-turn (YieldsList-at c.into_iter-party-iterator.ensures.into_iter_gives parties)
     i.yielded i.party-iterator i.yielded_by c.next.result c.next.new.self (p, c.in-Some.views) c.in-Some.is c.next.ensures.steps in
     let P = is_party ps n (length i.yielded) p x c.requires.within turn.0 turn.1 in
     table_fits (tables_in ps) c.args.code n c.args.output.now i.output (length i.yielded) c.requires.room i.invariant p (nodes_in x) P.number P.below P.is
@@ -25,11 +23,10 @@ loop-party-preserved c =
     let ps = c.args.parties.now in
     let n = c.args.count in
     let i = c.loop-party in
+    let parties = numbered_parties ps n c.zip-party-items.ensures.first c.zip-party-items.ensures.second.0 in
     let p = c.in-Some.party in
     let x = c.in-Some.views.now in
-    let turn = YieldsList-turn
-    (YieldsList-at c.into_iter-party-iterator.ensures.into_iter_gives
-    (YieldsList-from_zip (YieldsList-from_range 0 n n c.zip-party-items.ensures.first (omega arith)) (YieldsList-from_slice ps c.zip-party-items.ensures.second.0)))
+    let turn = YieldsList-turn (YieldsList-at c.into_iter-party-iterator.ensures.into_iter_gives parties)
     i.yielded i.party-iterator i.yielded_by c.next.result c.next.new.self (p, c.in-Some.views) c.in-Some.is c.next.ensures.steps in
     let P = is_party ps n (length i.yielded) p x c.requires.within turn.0 turn.1 in
     table_puts (tables_in ps) c.args.code n c.args.output.now i.output (length i.yielded) c.requires.room i.invariant p (nodes_in x) P.number P.below P.is
@@ -40,9 +37,8 @@ put-requires-2 c =
     let ps = c.args.parties.now in
     let n = c.args.count in
     let i = c.loop-party in
-    let end = YieldsList-end
-    (YieldsList-at c.into_iter-party-iterator.ensures.into_iter_gives
-    (YieldsList-from_zip (YieldsList-from_range 0 n n c.zip-party-items.ensures.first (omega arith)) (YieldsList-from_slice ps c.zip-party-items.ensures.second.0)))
+    let parties = numbered_parties ps n c.zip-party-items.ensures.first c.zip-party-items.ensures.second.0 in
+    let end = YieldsList-end (YieldsList-at c.into_iter-party-iterator.ensures.into_iter_gives parties)
     i.yielded i.party-iterator i.yielded_by c.next.result c.next.new.self c.in-None.is c.next.ensures.steps in
     last_fits (tables_in ps) c.args.code n c.args.output.now i.output (length i.yielded) c.requires.room i.invariant
     (parties_all ps n (length i.yielded) c.requires.within end.1)
@@ -52,9 +48,8 @@ returns c =
     let ps = c.args.parties.now in
     let n = c.args.count in
     let i = c.loop-party in
-    let end = YieldsList-end
-    (YieldsList-at c.into_iter-party-iterator.ensures.into_iter_gives
-    (YieldsList-from_zip (YieldsList-from_range 0 n n c.zip-party-items.ensures.first (omega arith)) (YieldsList-from_slice ps c.zip-party-items.ensures.second.0)))
+    let parties = numbered_parties ps n c.zip-party-items.ensures.first c.zip-party-items.ensures.second.0 in
+    let end = YieldsList-end (YieldsList-at c.into_iter-party-iterator.ensures.into_iter_gives parties)
     i.yielded i.party-iterator i.yielded_by c.next.result c.next.new.self c.in-None.is c.next.ensures.steps in
     file_puts (tables_in ps) c.args.code n c.args.output.now i.output (length i.yielded) c.requires.room i.invariant
     (parties_all ps n (length i.yielded) c.requires.within end.1) c.put-2.new.self c.put-2.ensures

@@ -3,7 +3,7 @@ use Rattle.std.proofs.lemmas.List.{get_or_read}
 use Rattle.views.specs.declared.view.View.{View}
 use Rattle.views.specs.Spelled.{root}
 use Rattle.views.specs.Building.{in_chart, completing, Entering, Entered}
-use Rattle.views.proofs.Growing.{remasked_sound}
+use Rattle.views.proofs.Growing.{sound, remasked_sound}
 use Rattle.views.proofs.Entering.{entering_none, entering_all}
 use Rattle.views.proofs.party_views.PartyViews.enter_line.Goals as goal
 
@@ -13,7 +13,7 @@ invariant_of-self-2 c =
     let x = c.index_mut-2.result.now in
     let n = s.views.ok.0 in
     let h : c.walk-whole.result < length s.views.items = let b = c.walk-whole.ensures.below in omega arith in
-    let k = remasked_sound s.views.items (record { earlier = s.earlier; apart = s.apart; short = s.short }) c.walk-whole.result h x c.index_mut-2.ensures.value (completing x c.args.bit) refl refl in
+    let k = remasked_sound s.views.items (sound s) c.walk-whole.result h x c.index_mut-2.ensures.value (completing x c.args.bit) refl refl in
     record { some = s.some; few = s.few; room = s.room; earlier = k.earlier; apart = k.apart; short = k.short }
 
 pub returns : goal.returns

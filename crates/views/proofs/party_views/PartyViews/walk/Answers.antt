@@ -4,7 +4,7 @@ use Rattle.acts.specs.declared.Act.{Act}
 use Rattle.views.specs.declared.view.View.{View}
 use Rattle.views.specs.Spelled.{root, spelled}
 use Rattle.views.specs.Building.{Entering, in_chart}
-use Rattle.views.proofs.Growing.{remasked_sound}
+use Rattle.views.proofs.Growing.{sound, remasked_sound}
 use Rattle.views.proofs.Spelling.{spelled-first}
 use Rattle.views.proofs.Entering.{entering_more, bit_spelled}
 use Rattle.views.proofs.party_views.PartyViews.walk.Goals as goal
@@ -51,7 +51,7 @@ invariant_of-self c =
     let x = c.index_mut.result.now in
     let n = s.views.ok.0 in
     let h : c.lengthened-at.result < length s.views.items = let b = c.lengthened-at.ensures.below in omega arith in
-    let k = remasked_sound s.views.items (record { earlier = s.earlier; apart = s.apart; short = s.short }) c.lengthened-at.result h x c.index_mut.ensures.value (in_chart x c.args.bit) refl refl in
+    let k = remasked_sound s.views.items (sound s) c.lengthened-at.result h x c.index_mut.ensures.value (in_chart x c.args.bit) refl refl in
     record { some = s.some; few = s.few; room = s.room; earlier = k.earlier; apart = k.apart; short = k.short }
 
 pub returns : goal.returns
