@@ -1,4 +1,4 @@
-use Rattle.std.proofs.Common.{Bool, List, sym, refl, ap, ◌∙◌, subst}
+use Rattle.std.proofs.Common.{Bool, List, sym, refl, ap, ◌∙◌, subst, arith}
 use Rattle.acts.specs.declared.Act.{Act}
 use Rattle.book.specs.History.{start}
 use Rattle.book.specs.Past.{Past, standing}
@@ -17,9 +17,9 @@ loop-clerk-init g c =
 pub loop-clerk-preserved : goal.loop-clerk-preserved
 loop-clerk-preserved g c =
     goes (g.C.Channel.meaning c.in_ok-new.field-0.channel).clearly c.args.session.now (course c.loop-clerk.clerk) (course c.command.new.self)
-    c.loop-clerk.invariant c.loop-clerk-test.true c.in_ok-command.ensures
+    c.loop-clerk.invariant (omega arith) c.in_ok-command.ensures
 
 pub returns : goal.returns
 returns g c =
-    at_end (g.C.Channel.meaning c.in_ok-new.field-0.channel).clearly c.args.session.now (course c.loop-clerk.clerk) c.loop-clerk.invariant c.loop-clerk-test.false
+    at_end (g.C.Channel.meaning c.in_ok-new.field-0.channel).clearly c.args.session.now (course c.loop-clerk.clerk) c.loop-clerk.invariant (omega arith)
     ∙ ap (λ (F : List Act → Bool). text_of_session F c.args.session.now) c.in_ok-new.ensures.rest.clearly
