@@ -1,6 +1,6 @@
 -- The right answer to a call is the computed one.
 use Rattle.std.proofs.Common.{◌≡◌, ℕ, ◌<◌, ◌≤◌, Bool, true, false, cond, not, eqb, ltb, List, [], length, is_some, Some, None, Ok, Option, sym, refl, ap, ◌∙◌, inl, inr, append-nil, arith}
-use Rattle.std.proofs.lemmas.Bool.{lt-ltb, le-ltb, ne_eqb, not_from_false, not-true, eqb-false, cases_lt, false≢true}
+use Rattle.std.proofs.lemmas.Bool.{cond-true, cond-false, lt-ltb, le-ltb, ne_eqb, not_from_false, not-true, eqb-false, cases_lt, false≢true}
 use Rattle.fault.specs.declared.BookCause.TheVariants.{OtherParties, EqualChart, NoConversation}
 use Rattle.acts.specs.declared.Act.{Act}
 use Rattle.acts.specs.Acts.{part, Lines, Own}
@@ -16,12 +16,6 @@ use Rattle.book.specs.Right.{Right, refusal, HasOtherParties}
 use Rattle.book.specs.Law.{Law}
 use Rattle.answering.specs.Answering.{passes, least, found, parties_of, equal_lines, most_acts, answered}
 use Rattle.answering.proofs.Least.{none-least, Found, some-least, same_lines, lines_same}
-
-cond_yes : {X : Type 0} (b : Bool) (x y : X) → b ≡ true → cond b x y ≡ x
-cond_yes b x y e = ap (λ (t : Bool). cond t x y) e
-
-cond_no : {X : Type 0} (b : Bool) (x y : X) → b ≡ false → cond b x y ≡ y
-cond_no b x y e = ap (λ (t : Bool). cond t x y) e
 
 not_some : (o : Option Lines) → (is_some o ≡ true → ⊥) → is_some o ≡ false
 not_some None h = refl
@@ -111,7 +105,7 @@ module _ (G : List Act → Bool) (L : Lawful G) (h : History) (W : Law G h) (i :
   past_id : (7 < i → ⊥) → (is_some (held h i) ≡ true → ⊥) → answered G (held h) (add i c)
       ≡ found (least 8 other) (λ j. refusal OtherParties (parties_of (held h j))) by_equal
   unfolding other equal
-  past_id n m = cond_no (ltb 7 i) _ _ (le-ltb 7 i (small n)) ∙ cond_no (is_some (held h i)) _ _ (not_some (held h i) m)
+  past_id n m = cond-false (ltb 7 i) _ _ (le-ltb 7 i (small n)) ∙ cond-false (is_some (held h i)) _ _ (not_some (held h i) m)
     where
       small : (7 < i → ⊥) → i ≤ 7
       small n = elim (cases_lt 7 i) [ inl g ↦ absurd (n g) | inr g ↦ g ]
@@ -125,26 +119,26 @@ module _ (G : List Act → Bool) (L : Lawful G) (h : History) (W : Law G h) (i :
 
   pub only_add : (r : Answer) → Right G h (add i c) r → r ≡ answered G (held h) (add i c)
   only_add r (inl x) = absurd (false≢true x.0)
-  only_add r (inr (a, inl x)) = x.1 ∙ sym (cond_yes (ltb 7 i) _ _ (lt-ltb 7 i x.0))
+  only_add r (inr (a, inl x)) = x.1 ∙ sym (cond-true (ltb 7 i) _ _ (lt-ltb 7 i x.0))
   only_add r (inr (a, inr (n, inl x))) =
-      x.1 ∙ sym (cond_no (ltb 7 i) _ _ (le-ltb 7 i (elim (cases_lt 7 i) [ inl g ↦ absurd (n g) | inr g ↦ g ])) ∙ cond_yes (is_some (held h i)) _ _ x.0)
+      x.1 ∙ sym (cond-false (ltb 7 i) _ _ (le-ltb 7 i (elim (cases_lt 7 i) [ inl g ↦ absurd (n g) | inr g ↦ g ])) ∙ cond-true (is_some (held h i)) _ _ x.0)
   only_add r (inr (a, inr (n, inr (m, inl x)))) = x.1.2 ∙ sym (past_id n m ∙ some-other x.1.0 x.1.1 by_equal)
   only_add r (inr (a, inr (n, inr (m, inr (o, inl x))))) = x.1.2 ∙ sym (past_other n m o ∙ some_equal x.1.0 x.1.1 by-talk)
   only_add r (inr (a, inr (n, inr (m, inr (o, inr (q, inl x)))))) =
       x.1.2
       ∙ ap (refusal NoConversation) (longest_same G c x.1.0 (most_acts G c) x.1.1 most)
-      ∙ sym (past_equal n m o q ∙ cond_yes (ltb (most_acts G c) (size c)) _ _ (not_all x.0))
+      ∙ sym (past_equal n m o q ∙ cond-true (ltb (most_acts G c) (size c)) _ _ (not_all x.0))
   only_add r (inr (a, inr (n, inr (m, inr (o, inr (q, inr (t, x))))))) =
-      x.1 ∙ sym (past_equal n m o q ∙ cond_no (ltb (most_acts G c) (size c)) _ _ (all_talk x.0))
+      x.1 ∙ sym (past_equal n m o q ∙ cond-false (ltb (most_acts G c) (size c)) _ _ (all_talk x.0))
 
 pub only_withdraw : (G : List Act → Bool) (h : History) (i : ℕ) (r : Answer) → Right G h (withdraw i) r → r ≡ answered G (held h) (withdraw i)
 only_withdraw G h i r (inl x) = absurd (false≢true x.0)
-only_withdraw G h i r (inr (a, inl x)) = x.1 ∙ sym (cond_yes (ltb 7 i) _ _ (lt-ltb 7 i x.0))
+only_withdraw G h i r (inr (a, inl x)) = x.1 ∙ sym (cond-true (ltb 7 i) _ _ (lt-ltb 7 i x.0))
 only_withdraw G h i r (inr (a, inr (n, inl x))) =
-    x.1 ∙ sym (cond_no (ltb 7 i) _ _ (le-ltb 7 i (elim (cases_lt 7 i) [ inl g ↦ absurd (n g) | inr g ↦ g ])) ∙ cond_no (is_some (held h i)) _ _ x.0)
+    x.1 ∙ sym (cond-false (ltb 7 i) _ _ (le-ltb 7 i (elim (cases_lt 7 i) [ inl g ↦ absurd (n g) | inr g ↦ g ])) ∙ cond-false (is_some (held h i)) _ _ x.0)
 only_withdraw G h i r (inr (a, inr (n, inr (m, x)))) =
-    x ∙ sym (cond_no (ltb 7 i) _ _ (le-ltb 7 i (elim (cases_lt 7 i) [ inl g ↦ absurd (n g) | inr g ↦ g ]))
-    ∙ cond_yes (is_some (held h i)) _ _ (some_is (held h i) m))
+    x ∙ sym (cond-false (ltb 7 i) _ _ (le-ltb 7 i (elim (cases_lt 7 i) [ inl g ↦ absurd (n g) | inr g ↦ g ]))
+    ∙ cond-true (is_some (held h i)) _ _ (some_is (held h i) m))
   where
     some_is : (o : Option Lines) → (is_some o ≡ false → ⊥) → is_some o ≡ true
     some_is None f = absurd (f refl)

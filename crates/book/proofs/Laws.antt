@@ -1,5 +1,6 @@
 -- What holds after every history whose answers were right.
 use Rattle.std.proofs.Common.{◌≡◌, ℕ, ◌≤◌, Bool, eqb, ◌⊎◌, List, length, Some, None, Ok, Err, Option, sym, refl, ap, ◌∙◌, subst, inl, inr, arith}
+use Rattle.std.proofs.lemmas.Option.{none-some}
 use Rattle.std.proofs.lemmas.Bool.{cases_Bool, cases_lt, cases_eq, cond-true, cond-false, eqb-true, eqb-false}
 use Rattle.acts.specs.declared.Act.{Act}
 use Rattle.acts.specs.Acts.{Lines}
@@ -7,7 +8,7 @@ use Rattle.conversation.specs.Conversations.{Talks}
 use Rattle.book.specs.History.{add, withdraw, History, start, then, held, put}
 use Rattle.book.specs.Right.{Right, AllRight, HasEqualChart}
 use Rattle.book.specs.Law.{Law, LastAdded, now_added, past_refused, past_add, past_withdraw}
-use Rattle.book.proofs.Tables.{none-some, some_same}
+use Rattle.book.proofs.Tables.{some_same}
 
 -- what a granted add says of its chart
 pub record Granted (G : List Act → Bool) (h : History) (i : ℕ) (c : Lines) : Type 0 where

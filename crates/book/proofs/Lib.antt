@@ -1,3 +1,4 @@
 pub mod Tables
+pub mod Slots
 pub mod Pasts
 pub mod Laws

@@ -1,15 +1,11 @@
 -- The table of charts in a book: its reads, its writes, how many it holds.
-use Rattle.std.proofs.Common.{◌≡◌, ℕ, ◌+◌, ◌<◌, ◌≤◌, cond, eqb, List, length, get_or, set, is_some, Some, None, Option, sym, refl, ap, ◌∙◌, inl, inr, add-one, arith}
-use Rattle.std.proofs.lemmas.List.{get_or-set_same, get_or-set_other, get_or_default, get_or_past}
-use Rattle.std.proofs.lemmas.Bool.{cases_Bool, cases_lt, cond-true, cond-false, eqb-true, eqb-false}
+use Rattle.std.proofs.Common.{◌≡◌, ℕ, ◌<◌, Bool, cond, eqb, List, length, get_or, set, is_some, Some, None, Option, sym, refl, ap, ◌∙◌, inl, inr}
+use Rattle.std.proofs.lemmas.List.{get_or-set_same, get_or-set_other, get_or_default}
+use Rattle.std.proofs.lemmas.Bool.{cases_Bool, cond-true, cond-false, eqb-true, eqb-false}
 use Rattle.acts.specs.Acts.{Lines}
 use Rattle.chart.specs.declared.chart.Chart.{Chart}
-use Rattle.book.specs.History.{put, counted}
+use Rattle.book.specs.History.{put}
 use Rattle.book.specs.Past.{shown, table_of}
-
--- one id more
-pub counted_more : (k : ℕ) (f : ℕ → Option Lines) → counted (k + 1) f ≡ counted k f + cond (is_some (f k)) 1 0
-counted_more k f = ap (λ (n : ℕ). counted n f) (add-one k)
 
 shown-some : (o : Option Chart) → is_some (shown o) ≡ is_some o
 shown-some None = refl
@@ -19,30 +15,13 @@ shown-some (Some c) = refl
 read : (cs : List (Option Chart)) (i : ℕ) (q : Option Chart) → i < length cs → q ≡ get_or cs i q → table_of cs i ≡ shown q
 read cs i q h e = ap shown (get_or_default cs i None q h ∙ sym e)
 
-pub read_some : (cs : List (Option Chart)) (i : ℕ) (q : Option Chart) → i < length cs → q ≡ get_or cs i q → is_some (table_of cs i) ≡ is_some q
-read_some cs i q h e = ap is_some (read cs i q h e) ∙ shown-some q
-
--- the same by the place of an id
-pub read_at : (cs : List (Option Chart)) (i k : ℕ) (q : Option Chart) → k ≡ i → k < length cs → q ≡ get_or cs k q → is_some (table_of cs i) ≡ is_some q
-read_at cs i k q at h e = ap (λ (j : ℕ). is_some (table_of cs j)) (sym at) ∙ read_some cs k q h e
-
--- past its end the table is empty
-past_none : (cs : List (Option Chart)) (i : ℕ) → length cs ≤ i → table_of cs i ≡ None
-past_none cs i h = ap shown (get_or_past cs i None h)
-
-pub none-some : {X : Type 0} (y : X) → None ≡ Some y → ⊥
-none-some y e = let z : ◌≡◌ {A = ℕ} 0 1 = cc in omega arith
+-- whether a chart stands under an id is known from its place
+pub known_place : (cs : List (Option Chart)) (i k : ℕ) (q : Option Chart) (t : Bool) → k ≡ i → k < length cs → q ≡ get_or cs k q → is_some q ≡ t
+    → is_some (table_of cs i) ≡ t
+known_place cs i k q t at h e f = ap (λ (j : ℕ). is_some (table_of cs j)) (sym at) ∙ ap is_some (read cs k q h e) ∙ shown-some q ∙ f
 
 pub some_same : {X : Type 0} (x y : X) → Some x ≡ Some y → x ≡ y
 some_same x y e = cc
-
--- what holds of the charts before the end holds of all
-pub everywhere : (cs : List (Option Chart)) (k : ℕ) (P : ℕ → Lines → Type 0) → length cs ≤ k
-    → ((i : ℕ) → i < k → (d : Lines) → table_of cs i ≡ Some d → P i d) → (i : ℕ) (d : Lines) → table_of cs i ≡ Some d → P i d
-everywhere cs k P end below i d e = elim (cases_lt i k) [
-  | inl h ↦ below i h d e
-  | inr h ↦ absurd (none-some d (sym (past_none cs i (omega arith)) ∙ e))
-]
 
 -- a written place
 pub written : (cs : List (Option Chart)) (i : ℕ) (x : Option Chart) → i < length cs → (j : ℕ) → table_of (set cs i x) j ≡ put i (shown x) (table_of cs) j

@@ -1,9 +1,8 @@
 -- A book and its past.
-use Rattle.std.specs.Prelude.{◌≡◌, ℕ, Bool, List, [], Some, None, vec_items, Option, slice_index_or}
+use Rattle.std.specs.Prelude.{◌≡◌, ℕ, Bool, List, [], Some, None, Option, slice_index_or}
 use Rattle.acts.specs.declared.Act.{Act}
 use Rattle.acts.specs.Acts.{Lines}
 use Rattle.channel.specs.Meaning.{Meaning}
-use Rattle.channel.specs.declared.channel.Channel as Channel
 use Rattle.chart.specs.declared.chart.Chart.{Chart}
 use Rattle.chart.specs.Of.{lines_in}
 use Rattle.conversation.specs.Conversations.{Reached}
@@ -19,15 +18,23 @@ shown (Some c) = Some (lines_in c)
 abbrev pub table_of : List (Option Chart) → ℕ → Option Lines
 table_of charts i = shown (slice_index_or charts i None)
 
-abbrev pub charts_of : {C : Type 0} {ghosts : Channel.Ghosts C} → Book C ghosts → ℕ → Option Lines
-charts_of b = table_of (vec_items b.charts)
+-- what a book stands for: its channel's meaning, and the chart under each id
+pub record Standing : Type 0 where
+  pub channel : Meaning
+  pub charts : ℕ → Option Lines
+
+abbrev pub charts_of : {C : Type 0} → Book C → ℕ → Option Lines
+charts_of b = table_of b.charts
+
+abbrev pub standing : {C : Type 0} → (C → Meaning) → Book C → Standing
+standing meaning b = record { channel = meaning b.channel; charts = charts_of b }
 
 -- every answer of h was right, the book holds what h says, and its channel is clear: it grants from now on what it grants from clear
-pub record Past (G : List Act → Bool) (h : History) (m : Meaning) (charts : ℕ → Option Lines) : Type 0 where
+pub record Past (G : List Act → Bool) (h : History) (b : Standing) : Type 0 where
   pub right : AllRight G h
-  pub holds : (i : ℕ) → charts i ≡ held h i
-  pub rest : Reached G m []
+  pub holds : (i : ℕ) → b.charts i ≡ held h i
+  pub rest : Reached G b.channel []
 
 -- a call with its answer, after any past: the answer is right, and the past goes on by it
-abbrev pub Keeps : Meaning → (ℕ → Option Lines) → Call → Answer → Meaning → (ℕ → Option Lines) → Type 0
-Keeps m s c r n t = (G : List Act → Bool) (h : History) → Past G h m s → Right G h c r × Past G (then h c r) n t
+abbrev pub Keeps : Standing → Call → Answer → Standing → Type 0
+Keeps was c r is = (G : List Act → Bool) (h : History) → Past G h was → Right G h c r × Past G (then h c r) is

@@ -1,5 +1,3 @@
-ghost use Rattle.std.specs.Prelude.{◌≡◌, vec_len};
-
 use channel::channel::Channel;
 use chart::chart::Chart;
 use conversation::order::Order;
@@ -10,7 +8,6 @@ mod calls;
 #[derive(Drop)]
 pub struct Book<C: Channel> {
     channel: C,
-    charts: Vec<Option<Chart>>,
+    charts: [Option<Chart>; 8],
     order: Order,
-    ghost eight: { vec_len charts ≡ 8 },
 }

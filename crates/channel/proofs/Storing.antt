@@ -1,9 +1,11 @@
 -- A channel that stores what waits in a list of 36 places: what is read, changed and cleared there.
-use Rattle.std.proofs.Common.{◌≡◌, ℕ, zero, suc, ◌+◌, ◌/◌, ◌%◌, ◌<◌, Bool, true, false, cond, ◌&&◌, eqb, ltb, List, [], ◌∷◌, ◌++◌, map, length, get_or, set, replicate, sym, refl, ap, ◌∙◌, subst, arith, below_more}
+use Rattle.std.proofs.Common.{◌≡◌, ℕ, ◌/◌, ◌%◌, ◌<◌, ◌↔◌, Bool, true, false, cond, ◌&&◌, eqb, ltb, List, [], ◌∷◌, map, length, get_or, set, sym, refl, ap, ◌∙◌, subst, arith}
 use mathlib.Core.Path.{fun_ext}
-use mathlib.Core.Bool.{and-true}
+use mathlib.Core.Bool.{false≢true}
 use Rattle.std.proofs.lemmas.List.{get_or-set_same, get_or-set_other, get_or-map, map-set, length-map}
 use Rattle.std.proofs.lemmas.Bool.{and_parts, and_from, eqb-true, eq-eqb, ltb-true, lt-ltb, cond-true, cond-false, cond_both, both_ways}
+use Rattle.std.specs.Bool.{MatchBool}
+use Rattle.std.specs.List.{AllWithin, HoldsAt}
 use Rattle.acts.specs.declared.Act.{Act}
 use Rattle.acts.specs.declared.Letter.{Letter}
 use Rattle.acts.specs.declared.Letter.TheVariants.{Send, Receive}
@@ -35,34 +37,10 @@ module _ (W : Way) {X : Type 0} (held : X → W.Waiting) where
   pub at_place : (xs : List X) (k : ℕ) (x : X) → k < length xs → at W held xs k ≡ held (get_or xs k x)
   at_place xs k x h = get_or-map held xs k x W.none h
 
-  pub at_item : (xs : List X) (k : ℕ) (x : X) → k < length xs → x ≡ get_or xs k x → at W held xs k ≡ held x
-  at_item xs k x h e = at_place xs k x h ∙ ap held (sym e)
-
-  pub at_replicate : (n k : ℕ) (x : X) → held x ≡ W.none → at W held (replicate n x) k ≡ W.none
-  at_replicate zero k x e = refl
-  at_replicate (suc n) zero x e = e
-  at_replicate (suc n) (suc k) x e = at_replicate n k x e
-
-  pub at_push : (xs : List X) (x : X) → held x ≡ W.none → ((k : ℕ) → at W held xs k ≡ W.none) → (k : ℕ)
-      → at W held (xs ++ (x ∷ [])) k ≡ W.none
-  at_push [] x e z zero = e
-  at_push [] x e z (suc k) = refl
-  at_push (y ∷ xs) x e z zero = z zero
-  at_push (y ∷ xs) x e z (suc k) = at_push xs x e (λ j. z (suc j)) k
-
-  -- what holds at each place below i holds at one more
-  pub at_set : (xs : List X) (i : ℕ) (y : X) → i < length xs → held y ≡ W.none → ((k : ℕ) → k < i → at W held xs k ≡ W.none)
-      → (k : ℕ) → k < i + 1 → at W held (set xs i y) k ≡ W.none
-  at_set xs i y h e z =
-      let same = map-set held xs i y in
-      below_more (λ k. at W held (set xs i y) k ≡ W.none) i
-      (λ k l.
-      ap (λ (zs : List W.Waiting). get_or zs k W.none) same
-      ∙ get_or-set_other (map held xs) i k (held y) W.none (λ q. omega arith)
-      ∙ z k l)
-      (ap (λ (zs : List W.Waiting). get_or zs i W.none) same
-      ∙ get_or-set_same (map held xs) i (held y) W.none (let n = length-map xs held in omega arith)
-      ∙ e)
+  -- what holds of the item at a place holds of what waits there
+  at_each : (P : W.Waiting → Type 0) (xs : List X) (k : ℕ) → k < length xs → HoldsAt (λ x. P (held x)) xs k → P (at W held xs k)
+  at_each P [] k h z = absurd (omega arith)
+  at_each P (x ∷ xs) k h z = subst P (sym (at_place (x ∷ xs) k x h)) (z x)
 
   read : (xs : List X) (s r : ℕ) → s < 6 → r < 6 → stored W held xs s r ≡ at W held xs (slot s r)
   read xs s r hs hr =
@@ -74,24 +52,26 @@ module _ (W : Way) {X : Type 0} (held : X → W.Waiting) where
   by_place xs s r P f = cond_both (ltb s 6 && ltb r 6) (at W held xs (slot s r)) W.none P (λ t. let k = both_below s r t in f k.0 k.1)
 
   -- nothing waits anywhere
-  pub stored-none : (xs : List X) → ((k : ℕ) → k < 36 → at W held xs k ≡ W.none) → meaning_in W held xs ≡ meaning_of W (clear W)
-  stored-none xs z = ap (meaning_of W) (fun_ext (λ s. fun_ext (λ r.
-      by_place xs s r (λ x. x ≡ W.none) (λ hs hr. z (slot s r) (omega arith)) (λ t. refl))))
+  pub stored-none : (xs : List X) → length xs ≡ 36 → AllWithin (λ x. held x ≡ W.none) xs 0 36 → meaning_in W held xs ≡ meaning_of W (clear W)
+  stored-none xs size z = ap (meaning_of W) (fun_ext (λ s. fun_ext (λ r.
+      by_place xs s r (λ x. x ≡ W.none)
+      (λ hs hr. at_each (λ x. x ≡ W.none) xs (slot s r) (omega arith) (λ x. z (slot s r) x (omega arith) (omega arith)))
+      (λ t. refl))))
 
-  pub stored-cleared : WayLawful W → (xs : List X) → ((k : ℕ) → k < 36 → at W held xs k ≡ W.none) → (q : State W)
+  pub stored-cleared : WayLawful W → (xs : List X) → length xs ≡ 36 → AllWithin (λ x. held x ≡ W.none) xs 0 36 → (q : State W)
       → meaning_in W held xs ≡ cleared (meaning_of W q)
-  stored-cleared L xs z q =
-      stored-none xs z
+  stored-cleared L xs size z q =
+      stored-none xs size z
       ∙ λ i. record {
         clearly = granted (may W) (carry W) (clear W);
         grants = granted (may W) (carry W) (clear W);
         waits = λ s r m. L.count_none m i;
       }
 
-  pub empty_still : WayLawful W → (xs : List X) → ((k : ℕ) → k < 36 → Bare W (at W held xs k)) → Still (meaning_in W held xs)
+  empty_still : WayLawful W → (xs : List X) → ((k : ℕ) → k < 36 → Bare W (at W held xs k)) → Still (meaning_in W held xs)
   empty_still L xs z s r m = by_place xs s r (λ x. W.count x m ≡ 0) (λ hs hr. z (slot s r) (omega arith) m) (λ t. L.count_none m)
 
-  pub still_empty : (xs : List X) → Still (meaning_in W held xs) → (k : ℕ) → k < 36 → Bare W (at W held xs k)
+  still_empty : (xs : List X) → Still (meaning_in W held xs) → (k : ℕ) → k < 36 → Bare W (at W held xs k)
   still_empty xs z k h m =
       let s : ℕ = k / 6 in
       let r : ℕ = k % 6 in
@@ -99,6 +79,15 @@ module _ (W : Way) {X : Type 0} (held : X → W.Waiting) where
       ap (λ (j : ℕ). W.count (at W held xs j) m) e
       ∙ ap (λ (x : W.Waiting). W.count x m) (sym (read xs s r (omega arith) (omega arith)))
       ∙ z s r m
+
+  -- the answer of asking each item whether nothing waits there
+  pub all_still : WayLawful W → (xs : List X) (b : Bool)
+      → MatchBool b (AllWithin (λ x. Bare W (held x)) xs 0 (length xs)) ((k : ℕ) × (k < length xs) × HoldsAt (λ x. Bare W (held x) → ⊥) xs k)
+      → length xs ≡ 36 → (b ≡ true) ↔ Still (meaning_in W held xs)
+  all_still L xs true z size =
+      (λ e. empty_still L xs (λ k h. at_each (Bare W) xs k (omega arith) (λ x. z k x (omega arith) (omega arith))), λ s. refl)
+  all_still L xs false z size =
+      (λ e. absurd (false≢true e), λ s. absurd (at_each (λ y. Bare W y → ⊥) xs z.0 z.1 z.2 (still_empty xs s z.0 (omega arith))))
 
   -- one place changed
   module _ (xs : List X) (s r : ℕ) (y : X) (size : length xs ≡ 36) (hs : s < 6) (hr : r < 6) where
@@ -129,48 +118,18 @@ module _ (W : Way) {X : Type 0} (held : X → W.Waiting) where
         (subst (λ (j : ℕ). stored W held ys j r ≡ f (stored W held xs j r)) (eqb-true s s' k.0) (here ∙ e)))
         (elsewhere s' r')))
 
-  -- the item x at the place of an act
-  module _ (xs : List X) (i : ℕ) (x : X) (a : Act) (size : length xs ≡ 36) (place : i ≡ place_of a) (item : at W held xs i ≡ held x) where
-    below : in_range a ≡ true → (from a.letter a.party a.peer < 6) × (to a.letter a.party a.peer < 6)
-    below known =
-        let k : InRange 6 a = in_range_holds a known in
-        ends_below a.letter a.party a.peer k.party k.peer
-
-    found : in_range a ≡ true → stored W held xs (from a.letter a.party a.peer) (to a.letter a.party a.peer) ≡ held x
-    found known =
-        let s : ℕ = from a.letter a.party a.peer in
-        let r : ℕ = to a.letter a.party a.peer in
-        let b : (s < 6) × (r < 6) = below known in
-        read xs s r b.0 b.1 ∙ ap (at W held xs) (sym place) ∙ item
-
-    pub stored-may : in_range a ≡ true
-        → allows W a.letter a.name (held x) ≡ granted (may W) (carry W) (stored W held xs) (a ∷ [])
-    stored-may known =
-        let s : ℕ = from a.letter a.party a.peer in
-        let r : ℕ = to a.letter a.party a.peer in
-        ap (allows W a.letter a.name) (sym (found known))
-        ∙ ap (λ (b : Bool). b && allows W a.letter a.name (stored W held xs s r)) (sym known)
-        ∙ sym (and-true (may W (stored W held xs) a))
-
-    module _ (h : granted (may W) (carry W) (stored W held xs) (a ∷ []) ≡ true) where
-      may_holds : may W (stored W held xs) a ≡ true
-      may_holds = (and_parts (may W (stored W held xs) a) true h).0
-
-      known : in_range a ≡ true
-      known =
-          (and_parts (in_range a) (allows W a.letter a.name
-          (stored W held xs (from a.letter a.party a.peer) (to a.letter a.party a.peer))) may_holds).0
-
-      pub stored-allows : allows W a.letter a.name (held x) ≡ true
-      stored-allows = stored-may known ∙ h
-
-      pub stored-carried : WayLawful W → (y : X) → held y ≡ change W a.letter a.name (held x)
-          → meaning_in W held (set xs i y) ≡ carried a (meaning_in W held xs)
-      stored-carried L y e =
-          let s : ℕ = from a.letter a.party a.peer in
-          let r : ℕ = to a.letter a.party a.peer in
-          let b : (s < 6) × (r < 6) = below known in
-          ap (λ (j : ℕ). meaning_in W held (set xs j y)) place
-          ∙ ap (meaning_of W) (changed xs s r y size b.0 b.1 (change W a.letter a.name)
-          (e ∙ ap (change W a.letter a.name) (sym (found known))))
-          ∙ way_carried W L (stored W held xs) a may_holds
+-- an allowed act is carried by changing the item at its place
+pub stored-carried : (W : Way) {X : Type 0} (held : X → W.Waiting) → WayLawful W → (xs : List X) (i : ℕ) (x y : X) (a : Act) → length xs ≡ 36
+    → in_range a ≡ true → i ≡ place_of a → allows W a.letter a.name (held (get_or xs i x)) ≡ true
+    → held y ≡ change W a.letter a.name (held (get_or xs i x)) → meaning_in W held (set xs i y) ≡ carried a (meaning_in W held xs)
+stored-carried W held L xs i x y a size known place h e =
+    let s : ℕ = from a.letter a.party a.peer in
+    let r : ℕ = to a.letter a.party a.peer in
+    let q : State W = stored W held xs in
+    let k : InRange 6 a = in_range_holds a known in
+    let b : (s < 6) × (r < 6) = ends_below a.letter a.party a.peer k.party k.peer in
+    let here : q s r ≡ held (get_or xs i x) =
+    read W held xs s r b.0 b.1 ∙ ap (at W held xs) (sym place) ∙ at_place W held xs i x (omega arith) in
+    ap (λ (j : ℕ). meaning_in W held (set xs j y)) place
+    ∙ ap (meaning_of W) (changed W held xs s r y size b.0 b.1 (change W a.letter a.name) (e ∙ ap (change W a.letter a.name) (sym here)))
+    ∙ way_carried W L q a (and_from (in_range a) (allows W a.letter a.name (q s r)) known (ap (allows W a.letter a.name) here ∙ h))

@@ -10,7 +10,7 @@ use std::collections::VecDeque;
 
 // Names that are received in the order sent, with memory for 32.
 #[derive(Drop)]
-pub(crate) struct Queue {
+pub struct Queue {
     names: VecDeque<u8>,
     ghost room: { 32 ≤ deque_capacity names },
 }
@@ -26,6 +26,10 @@ impl Queue {
 }
 
 impl Store for Queue {
+    const CODE: u8 = 1;
+
+    ghost CODE = { 1 };
+
     ghost way = { in_order };
 
     ghost held = { λ q. q.names.items };
@@ -43,10 +47,7 @@ impl Store for Queue {
     fn allows(&self, act: Act) -> bool {
         match act.letter {
             Letter::Send => self.names.len() < 32,
-            Letter::Receive => match self.names.front() {
-                Some(first) => *first == act.name,
-                None => false,
-            },
+            Letter::Receive => self.names.front() == Some(&act.name),
         }
     }
 
@@ -54,7 +55,7 @@ impl Store for Queue {
         match act.letter {
             Letter::Send => self.names.push_back_reserved(act.name),
             Letter::Receive => {
-                let _ = self.names.remove(0);
+                let _ = self.names.pop_front();
             }
         }
     }

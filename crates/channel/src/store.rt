@@ -1,15 +1,16 @@
-ghost use Rattle.std.specs.Prelude.{◌≡◌, ℕ, ◌<◌, true, ◌↔◌, [], ◌∷◌, length, is_ok};
-ghost use Rattle.channel.specs.Meaning.{cleared, carried, tried, Still};
-ghost use Rattle.channel.specs.Pairs.{in_range, Way, allows, change};
+ghost use Rattle.std.specs.Prelude.{◌≡◌, ℕ, ◌<◌, true, ◌↔◌};
+ghost use Rattle.channel.specs.Pairs.{Way, allows, change};
 ghost use Rattle.channel.specs.Ways.{WayLawful};
-ghost use Rattle.channel.specs.Places.{meaning_in};
 
-use crate::place::{PLACES, known, place};
 use acts::Act;
-use fault::ChannelCause;
 
 // The names that wait from one sender to one receiver.
-pub(crate) trait Store {
+pub trait Store {
+    // The code of the links that keep such stores.
+    const CODE: u8;
+
+    ghost CODE: { ℕ };
+
     ghost way: { Way };
 
     ghost held: { Self → way.Waiting };
@@ -34,66 +35,4 @@ pub(crate) trait Store {
         ensures { held self.new ≡ change way act.letter act.name (held self.old) };
 
     ghost lawful: { WayLawful way };
-}
-
-// Nothing waits any more.
-pub(crate) fn clear<S: Store>(stores: &mut [S])
-    requires { length stores.old ≡ 36 }
-    ensures { meaning_in S.Store.way S.Store.held stores.new ≡ cleared (meaning_in S.Store.way S.Store.held stores.old) }
-{
-    for i in 0..PLACES {
-        stores[i].clear();
-    }
-}
-
-// Whether an act in range is granted.
-fn grants<S: Store>(stores: &[S], act: Act) -> bool
-    requires size { length stores.now ≡ 36 }
-    requires known { in_range act ≡ true }
-    ensures { result ≡ (meaning_in S.Store.way S.Store.held stores.now).grants (act ∷ []) }
-{
-    stores[place(act)].allows(act)
-}
-
-// Whether the act is granted.
-pub(crate) fn may<S: Store>(stores: &[S], act: Act) -> bool
-    requires { length stores.now ≡ 36 }
-    ensures { result ≡ (meaning_in S.Store.way S.Store.held stores.now).grants (act ∷ []) }
-{
-    known(act) && grants(stores, act)
-}
-
-// Does a granted act.
-fn perform<S: Store>(stores: &mut [S], act: Act)
-    requires size { length stores.old ≡ 36 }
-    requires granted { (meaning_in S.Store.way S.Store.held stores.old).grants (act ∷ []) ≡ true }
-    ensures { meaning_in S.Store.way S.Store.held stores.new ≡ carried act (meaning_in S.Store.way S.Store.held stores.old) }
-{
-    stores[place(act)].change(act);
-}
-
-// Does the act where it is granted, and otherwise refuses and changes nothing.
-pub(crate) fn carry<S: Store>(stores: &mut [S], act: Act) -> Result<(), ChannelCause>
-    requires { length stores.old ≡ 36 }
-    ensures test { is_ok result ≡ (meaning_in S.Store.way S.Store.held stores.old).grants (act ∷ []) }
-    ensures after { meaning_in S.Store.way S.Store.held stores.new ≡ tried (is_ok result) act (meaning_in S.Store.way S.Store.held stores.old) }
-{
-    if !may(stores, act) {
-        return Err(ChannelCause::Denied);
-    }
-    perform(stores, act);
-    Ok(())
-}
-
-// Whether nothing waits.
-pub(crate) fn idle<S: Store>(stores: &[S]) -> bool
-    requires { length stores.now ≡ 36 }
-    ensures { (result ≡ true) ↔ Still (meaning_in S.Store.way S.Store.held stores.now) }
-{
-    for k in 0..PLACES {
-        if !stores[k].is_empty() {
-            return false;
-        }
-    }
-    true
 }

@@ -8,9 +8,7 @@ use fault::ChannelCause;
 
 // A channel that denies every act.
 #[derive(Drop)]
-pub struct Mute {
-    pub mark: u8,
-}
+pub struct Mute;
 
 impl Channel for Mute {
     const CODE: u8 = 99;

@@ -45,7 +45,7 @@ fn crossing_messages(rt: HostRuntime) -> Result<(), Fail> {
     let mut bag = Bag::new();
     assert_eq!(rt; run(&mut bag, &chart, &mut order), 4);
     assert!(rt; bag.idle());
-    let mut mute = Mute { mark: 0 };
+    let mut mute = Mute;
     assert_eq!(rt; run(&mut mute, &chart, &mut order), 0);
     Ok(())
 }
@@ -95,7 +95,7 @@ fn out_of_range<C: Channel>(rt: &impl Abort, channel: &mut C) {
 fn out_of_range_is_denied(rt: HostRuntime) -> Result<(), Fail> {
     out_of_range(&rt, &mut Line::new(rt.alloc())?);
     out_of_range(&rt, &mut Bag::new());
-    out_of_range(&rt, &mut Mute { mark: 0 });
+    out_of_range(&rt, &mut Mute);
     Ok(())
 }
 
@@ -103,7 +103,7 @@ fn out_of_range_is_denied(rt: HostRuntime) -> Result<(), Fail> {
 #[test]
 fn mute_book(rt: HostRuntime) -> Result<(), Fail> {
     let heap = rt.alloc();
-    let mut book = Book::new(heap, Mute { mark: 0 })?;
+    let mut book = Book::new(heap, Mute)?;
     let mut chart = Chart::new(heap)?;
     assert!(rt; chart.read(&CROSSING).is_ok());
     match book.add(0, chart) {

@@ -1,4 +1,3 @@
-pub mod Rows
 pub mod Reached
 pub mod Kept
 pub mod Put

@@ -1,15 +1,11 @@
 -- Bytes put into an output one after another, and how many a file has.
-use Rattle.std.proofs.Common.{◌≡◌, ℕ, zero, suc, ◌+◌, ◌*◌, ◌<◌, ◌≤◌, List, [], ◌∷◌, ◌++◌, length, take, drop, set, sym, refl, ap, ◌∙◌, append_assoc, add-zero, add-one, arith, length-append}
-use Rattle.std.proofs.lemmas.List.{length-take-le, length-drop, take_at, drop_at, drop-drop, set_split, take-append-drop}
+use Rattle.std.proofs.Common.{◌≡◌, ℕ, zero, suc, ◌+◌, ◌*◌, ◌<◌, ◌≤◌, List, [], ◌∷◌, ◌++◌, length, take, drop, sym, ap, ◌∙◌, append_assoc, add-zero, add-one, arith, length-append}
+use Rattle.std.proofs.lemmas.List.{length-take-le, length-drop, take_at, drop_at, drop-drop, take-append-drop}
 use Rattle.acts.specs.declared.Act.{Act}
 use Rattle.acts.specs.Acts.{Lines, line}
 use Rattle.acts.specs.Language.{size}
 use Rattle.files.specs.Bytes.{acts_bytes, line_bytes, lines_bytes, file_of}
-use Rattle.lines.proofs.Sheets.{size_more}
 use Rattle.chart.specs.Writing.{put}
-
-pub put_one : (out : List ℕ) (at b : ℕ) → at < length out → set out at b ≡ put out at (b ∷ [])
-put_one out at b h = set_split out at b h ∙ ap (λ (n : ℕ). take at out ++ (b ∷ drop n out)) (sym (add-one at))
 
 pub length-put : (out : List ℕ) (at : ℕ) (xs : List ℕ) → at + length xs ≤ length out → length (put out at xs) ≡ length out
 length-put out at xs h =
@@ -38,12 +34,6 @@ put_more out at xs ys to e h =
     ∙ append_assoc (take at out) xs (ys ++ drop (at + length (xs ++ ys)) out)
     ∙ ap (λ (l : List ℕ). take at out ++ l) (sym (append_assoc xs ys (drop (at + length (xs ++ ys)) out)))
 
--- one byte more
-pub put_byte : (out : List ℕ) (at : ℕ) (xs : List ℕ) (to b : ℕ) → to ≡ at + length xs → at + length xs < length out
-    → set (put out at xs) to b ≡ put out at (xs ++ (b ∷ []))
-put_byte out at xs to b e h =
-    put_one (put out at xs) to b (let l = length-put out at xs (omega arith) in omega arith) ∙ put_more out at xs (b ∷ []) to e (omega arith)
-
 pub length_acts : (l : List Act) → length (acts_bytes l) ≡ 3 * length l
 length_acts [] = omega arith
 length_acts (a ∷ l) = let e = length_acts l in omega arith
@@ -65,21 +55,16 @@ length_file c =
 pub put-none : (out : List ℕ) (at : ℕ) → put out at [] ≡ out
 put-none out at = ap (λ (n : ℕ). take at out ++ drop n out) (add-zero at) ∙ take-append-drop at out
 
--- two bytes, and three
-pub put_two : (out : List ℕ) (at a b : ℕ) → at + 2 ≤ length out → set (set out at a) (at + 1) b ≡ put out at (a ∷ b ∷ [])
-put_two out at a b h =
-    ap (λ (o : List ℕ). set o (at + 1) b) (put_one out at a (omega arith)) ∙ put_byte out at (a ∷ []) (at + 1) b refl (omega arith)
-
-pub put_three : (out : List ℕ) (at a b c : ℕ) → at + 3 ≤ length out
-    → set (set (set out at a) (at + 1) b) (at + 2) c ≡ put out at (a ∷ b ∷ c ∷ [])
-put_three out at a b c h =
-    ap (λ (o : List ℕ). set o (at + 2) c) (put_two out at a b (omega arith)) ∙ put_byte out at (a ∷ b ∷ []) (at + 2) c refl (omega arith)
-
 pub size-take : (k : ℕ) (c : Lines) → size (take k c) ≤ size c
 size-take zero c = omega arith
 size-take (suc k) [] = omega arith
 size-take (suc k) (l ∷ c) = let e = size-take k c in omega arith
 
--- one line more of a file, as numbers
+-- one line more
 pub one_line : (c : Lines) (p : ℕ) (l : List Act) → p < length c → l ≡ line c p → size (take (p + 1) c) ≡ size (take p c) + length l
-one_line c p l h e = sym (size_more c p (size (take p c)) l h e refl)
+one_line [] p l h e = absurd (omega arith)
+one_line (k ∷ c) zero l h e = let g = ap length e in omega arith
+one_line (k ∷ c) (suc p) l h e =
+    let g = one_line c p l (omega arith) e in
+    let f : size (take (suc p + 1) (k ∷ c)) ≡ length k + size (take (p + 1) c) = ap (λ (n : ℕ). size (take n (k ∷ c))) (add-one (suc p)) ∙ ap (λ (n : ℕ). length k + size (take n c)) (sym (add-one p)) in
+    omega arith

@@ -53,12 +53,7 @@ act_more a b c p i acts d room h k q =
     (sym (acts_more (take i acts) (get_or acts i d)) ∙ ap acts_bytes (sym (take_more acts i d h)))
     (puts-more a b c (line_bytes p (take i acts)) (act_bytes (get_or acts i d)) (omega arith) k q)
 
--- the whole line
-pub line_whole : (a b : Output) (p i : ℕ) (acts : List Act) → length acts ≤ i → Puts a (line_bytes p (take i acts)) b
-    → Puts a (line_bytes p acts) b
-line_whole a b p i acts h k = subst (λ (l : List Act). Puts a (line_bytes p l) b) (take_all i acts h) k
-
--- the lines so far have room for the next one, and all lines for the end
+-- the lines so far have room for the next one
 pub line_room : (a b : Output) (p : ℕ) (c : Lines) (l : List Act) → Fits a (file_of c) → p < length c → l ≡ line c p
     → Puts a (front_bytes (length c) (take p c)) b → Fits b (line_bytes p l)
 line_room a b p c l room h e k =
@@ -69,13 +64,6 @@ line_room a b p c l room h e k =
     let z = size-take (p + 1) c in
     let g = length_acts l in
     puts-room a b (front_bytes (length c) (take p c)) (length (line_bytes p l)) (omega arith) k
-
-pub end_room : (a b : Output) (p : ℕ) (c : Lines) → Fits a (file_of c) → length c ≤ p → Puts a (front_bytes (length c) (take p c)) b
-    → b.place + 1 ≤ length b.bytes.now
-end_room a b p c room h k =
-    let n = length-append (front_bytes (length c) c) (90 ∷ []) in
-    let e = ap (λ (d : Lines). length (front_bytes (length c) d)) (take_all p c h) in
-    puts-room a b (front_bytes (length c) (take p c)) 1 (omega arith) k
 
 -- one line more
 pub line_more : (a b d : Output) (p : ℕ) (c : Lines) (l : List Act) → Fits a (file_of c) → p < length c → l ≡ line c p

@@ -3,6 +3,7 @@ ghost use Rattle.lines.specs.Of.{lines_of};
 
 use lines::sheet::Sheet;
 
+mod comparing;
 mod looking;
 mod storing;
 

@@ -1,135 +1,154 @@
-ghost use Rattle.std.specs.Prelude.{◌≡◌, ℕ, ◌+◌, ◌^◌, ◌<◌, ◌≤◌, true, false, length, drop, MatchResult, slice_index};
+ghost use Rattle.std.specs.Prelude.{◌≡◌, length, MatchResult};
 ghost use Rattle.lines.specs.Charts.{Lined, IsChart};
 ghost use Rattle.lines.specs.Of.{lines_of};
 ghost use Rattle.files.specs.Bytes.{file_of};
 ghost use Rattle.acts.specs.Acts.{byte_of_letter};
 ghost use Rattle.fault.specs.declared.FileCause.TheVariants.{GoesOn};
 ghost use Rattle.files.specs.Answers.{BadFile, Refused, file_fault};
-ghost use Rattle.chart.specs.Steps.{Taken, stage_of};
+ghost use Rattle.chart.specs.Steps.{file_at, place_at, Due, Taken, letter_at, AtFront, Read};
 
 use crate::cursor::Cursor;
 use acts::{Act, Letter};
-use fault::{ChartCause, Fault, FileCause, Layer};
+use fault::{ChartCause, Fault, FileCause};
 use lines::sheet::Sheet;
+use std::ops::ControlFlow;
 
 // Names are below this.
 const NAMES: u8 = 32;
 
-// C: the number of parties.
-fn open(sheet: &mut Sheet, cursor: &mut Cursor) -> Result<bool, Fault>
-    requires { cursor.old.place < length cursor.old.file.now }
-    ensures file { cursor.new.file.now ≡ cursor.old.file.now }
-    ensures taken { Taken 67 (stage_of sheet.old) cursor.old.file.now cursor.old.place result (stage_of sheet.new) cursor.new.place }
-{
-    if sheet.parties() != 0 {
-        return Err(cursor.fault(FileCause::NotAllowed, 0));
-    }
-    let [_, parties, ..] = cursor.rest() else {
-        return Err(cursor.cut_short());
-    };
-    if !sheet.open(*parties) {
-        return Err(cursor.fault(FileCause::OutOfRange, 1));
-    }
-    cursor.place += 2;
-    Ok(false)
+// A file on its way into a sheet, command by command; the last command breaks off.
+#[derive(Drop)]
+pub struct Reader<'s, 'f> {
+    sheet: &'s mut Sheet,
+    cursor: Cursor<'f>,
 }
 
-// L: the next party's line.
-fn begin(sheet: &mut Sheet, cursor: &mut Cursor) -> Result<bool, Fault>
-    requires { cursor.old.place < length cursor.old.file.now }
-    ensures file { cursor.new.file.now ≡ cursor.old.file.now }
-    ensures taken { Taken 76 (stage_of sheet.old) cursor.old.file.now cursor.old.place result (stage_of sheet.new) cursor.new.place }
-{
-    let begun = sheet.begun();
-    if begun >= sheet.parties() {
-        return Err(cursor.fault(FileCause::NotAllowed, 0));
+// `Due` stays a clause of four: a struct for the time of one command would only wrap the reader.
+impl Reader<'_, '_> {
+    // C: the number of parties.
+    fn open(&mut self) -> Result<ControlFlow<()>, Fault>
+        requires { Due self.old }
+        ensures { Taken 67 self.old result self.new }
+    {
+        let cursor = &mut self.cursor;
+        if self.sheet.parties() != 0 {
+            return Err(cursor.fault(FileCause::NotAllowed, 0));
+        }
+        let [_, parties, ..] = cursor.rest() else {
+            return Err(cursor.cut_short());
+        };
+        if self.sheet.open(*parties).is_err() {
+            return Err(cursor.fault(FileCause::OutOfRange, 1));
+        }
+        cursor.pass(2);
+        Ok(ControlFlow::Continue(()))
     }
-    let [_, party, ..] = cursor.rest() else {
-        return Err(cursor.cut_short());
-    };
-    if *party != begun {
-        return Err(cursor.fault(FileCause::OutOfRange, 1));
-    }
-    let _ = sheet.begin_line();
-    cursor.place += 2;
-    Ok(false)
-}
 
-// S or R: an act of the line's party.
-fn act(sheet: &mut Sheet, cursor: &mut Cursor, letter: Letter) -> Result<bool, Fault>
-    requires { cursor.old.place < length cursor.old.file.now }
-    ensures file { cursor.new.file.now ≡ cursor.old.file.now }
-    ensures taken { Taken (byte_of_letter letter) (stage_of sheet.old) cursor.old.file.now cursor.old.place result (stage_of sheet.new) cursor.new.place }
-{
-    let begun = sheet.begun();
-    if begun == 0 {
-        return Err(cursor.fault(FileCause::NotAllowed, 0));
+    // L: the next party's line.
+    fn begin(&mut self) -> Result<ControlFlow<()>, Fault>
+        requires { Due self.old }
+        ensures { Taken 76 self.old result self.new }
+    {
+        let cursor = &mut self.cursor;
+        let begun = self.sheet.begun();
+        if begun >= self.sheet.parties() {
+            return Err(cursor.fault(FileCause::NotAllowed, 0));
+        }
+        let [_, party, ..] = cursor.rest() else {
+            return Err(cursor.cut_short());
+        };
+        if *party != begun {
+            return Err(cursor.fault(FileCause::OutOfRange, 1));
+        }
+        let _ = self.sheet.begin_line();
+        cursor.pass(2);
+        Ok(ControlFlow::Continue(()))
     }
-    let party = begun - 1;
-    let [_, peer, name, ..] = cursor.rest() else {
-        return Err(cursor.cut_short());
-    };
-    if *peer >= sheet.parties() || *peer == party {
-        return Err(cursor.fault(FileCause::OutOfRange, 1));
-    }
-    if *name >= NAMES {
-        return Err(cursor.fault(FileCause::OutOfRange, 2));
-    }
-    let (peer, name) = (*peer, *name);
-    if !sheet.lengthen(Act {
-        party,
-        letter,
-        peer,
-        name,
-    }) {
-        return Err(cursor.fault(FileCause::LineFull, 0));
-    }
-    cursor.place += 3;
-    Ok(false)
-}
 
-// Z: the end of the last line.
-fn close(sheet: &mut Sheet, cursor: &mut Cursor) -> Result<bool, Fault>
-    requires { cursor.old.place < length cursor.old.file.now }
-    ensures file { cursor.new.file.now ≡ cursor.old.file.now }
-    ensures taken { Taken 90 (stage_of sheet.old) cursor.old.file.now cursor.old.place result (stage_of sheet.new) cursor.new.place }
-{
-    let parties = sheet.parties();
-    if parties == 0 || sheet.begun() != parties {
-        return Err(cursor.fault(FileCause::NotAllowed, 0));
+    // S or R: an act of the line's party.
+    fn act(&mut self, letter: Letter) -> Result<ControlFlow<()>, Fault>
+        requires { Due self.old }
+        ensures { Taken (byte_of_letter letter) self.old result self.new }
+    {
+        let cursor = &mut self.cursor;
+        let begun = self.sheet.begun();
+        if begun == 0 {
+            return Err(cursor.fault(FileCause::NotAllowed, 0));
+        }
+        let party = begun - 1;
+        let [_, peer, name, ..] = cursor.rest() else {
+            return Err(cursor.cut_short());
+        };
+        let (peer, name) = (*peer, *name);
+        if peer >= self.sheet.parties() || peer == party {
+            return Err(cursor.fault(FileCause::OutOfRange, 1));
+        }
+        if name >= NAMES {
+            return Err(cursor.fault(FileCause::OutOfRange, 2));
+        }
+        let act = Act {
+            party,
+            letter,
+            peer,
+            name,
+        };
+        if self.sheet.lengthen(act).is_err() {
+            return Err(cursor.fault(FileCause::LineFull, 0));
+        }
+        cursor.pass(3);
+        Ok(ControlFlow::Continue(()))
     }
-    cursor.place += 1;
-    Ok(true)
-}
 
-// One command, selected by its letter; answers whether it was the last.
-fn command(sheet: &mut Sheet, cursor: &mut Cursor) -> Result<bool, Fault>
-    requires { cursor.old.place ≤ length cursor.old.file.now }
-    ensures file { cursor.new.file.now ≡ cursor.old.file.now }
-    ensures taken { Taken (slice_index (drop cursor.old.place cursor.old.file.now) 0) (stage_of sheet.old) cursor.old.file.now cursor.old.place result (stage_of sheet.new) cursor.new.place }
-{
-    let [letter, ..] = cursor.rest() else {
-        return Err(cursor.cut_short());
-    };
-    match char::from(*letter) {
-        'C' => open(sheet, cursor),
-        'L' => begin(sheet, cursor),
-        'S' => act(sheet, cursor, Letter::Send),
-        'R' => act(sheet, cursor, Letter::Receive),
-        'Z' => close(sheet, cursor),
-        _ => Err(cursor.fault(FileCause::NotAllowed, 0)),
+    // Z: the end of the last line.
+    fn close(&mut self) -> Result<ControlFlow<()>, Fault>
+        requires { Due self.old }
+        ensures { Taken 90 self.old result self.new }
+    {
+        let cursor = &mut self.cursor;
+        let parties = self.sheet.parties();
+        if parties == 0 || self.sheet.begun() != parties {
+            return Err(cursor.fault(FileCause::NotAllowed, 0));
+        }
+        cursor.pass(1);
+        Ok(ControlFlow::Break(()))
     }
-}
 
-// Nothing may stand behind the last command.
-fn finish(cursor: &Cursor) -> Result<(), Fault>
-    requires { cursor.now.place ≤ length cursor.now.file.now }
-    ensures { MatchResult result (λ _. cursor.now.place ≡ length cursor.now.file.now) (λ f. (cursor.now.place < length cursor.now.file.now) × (f ≡ file_fault GoesOn cursor.now.place)) }
-{
-    if cursor.place < cursor.file.len() {
-        return Err(cursor.fault(FileCause::GoesOn, 0));
+    // One command, selected by its letter.
+    fn command(&mut self) -> Result<ControlFlow<()>, Fault>
+        ensures { Taken (letter_at self.old) self.old result self.new }
+    {
+        let cursor = &mut self.cursor;
+        let [letter, ..] = cursor.rest() else {
+            return Err(cursor.cut_short());
+        };
+        match char::from(*letter) {
+            'C' => self.open(),
+            'L' => self.begin(),
+            'S' => self.act(Letter::Send),
+            'R' => self.act(Letter::Receive),
+            'Z' => self.close(),
+            _ => Err(cursor.fault(FileCause::NotAllowed, 0)),
+        }
     }
-    Ok(())
+
+    // Nothing may stand behind the last command.
+    fn finish(&self) -> Result<(), Fault>
+        ensures { MatchResult result (λ _. place_at self.now ≡ length (file_at self.now)) (λ f. Due self.now × (f ≡ file_fault GoesOn (place_at self.now))) }
+    {
+        if !self.cursor.rest().is_empty() {
+            return Err(self.cursor.fault(FileCause::GoesOn, 0));
+        }
+        Ok(())
+    }
+
+    // All commands, from the front of the file to its end.
+    fn read(&mut self) -> Result<(), Fault>
+        requires { AtFront self.old }
+        ensures { Read self.old result self.new }
+    {
+        while self.command()?.is_continue() {}
+        self.finish()
+    }
 }
 
 // Fills the sheet with the lines of a complete file.
@@ -137,12 +156,8 @@ pub fn fill(sheet: &mut Sheet, file: &[u8]) -> Result<(), Fault>
     ensures { MatchResult result (λ _. Lined (lines_of sheet.new) × (file_of (lines_of sheet.new) ≡ file.now)) (λ f. BadFile file.now f) }
 {
     sheet.wipe();
-    let mut cursor = Cursor { file, place: 0 };
-    loop {
-        if command(sheet, &mut cursor)? {
-            return finish(&cursor);
-        }
-    }
+    let cursor = Cursor::new(file);
+    Reader { sheet, cursor }.read()
 }
 
 // Whether the lines of a complete file make a chart.
@@ -150,17 +165,11 @@ pub fn check(sheet: &Sheet) -> Result<(), Fault>
     ensures { Lined (lines_of sheet.now) → MatchResult result (λ _. IsChart (lines_of sheet.now)) (λ f. Refused (file_of (lines_of sheet.now)) f) }
 {
     if let Some(number) = sheet.first_unpaired() {
-        return Err(Fault {
-            layer: Layer::Chart(ChartCause::NotPaired),
-            place: u64::from(number),
-        });
+        return Err(Fault::new(ChartCause::NotPaired, usize::from(number)));
     }
     let acts = sheet.longest_order();
     if acts < sheet.size() {
-        return Err(Fault {
-            layer: Layer::Chart(ChartCause::NotPlayable),
-            place: acts as u64,
-        });
+        return Err(Fault::new(ChartCause::NotPlayable, acts));
     }
     Ok(())
 }

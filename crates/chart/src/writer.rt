@@ -3,18 +3,14 @@ ghost use Rattle.files.specs.Bytes.{act_bytes, line_bytes};
 ghost use Rattle.chart.specs.Putting.{Fits, Puts};
 
 use crate::output::Output;
-use acts::{Act, Letter};
+use acts::Act;
 
 // Puts an act.
 fn write_act(output: &mut Output, act: Act)
     requires { Fits output.old (act_bytes act) }
     ensures { Puts output.old (act_bytes act) output.new }
 {
-    let letter = match act.letter {
-        Letter::Send => b'S',
-        Letter::Receive => b'R',
-    };
-    output.put(&[letter, act.peer, act.name]);
+    output.put(&[u8::from(act.letter), act.peer, act.name]);
 }
 
 // Puts a party's line.

@@ -24,30 +24,16 @@ fn links(rt: &HostRuntime, chart: &Chart) -> anyhow::Result<()> {
     Ok(())
 }
 
-fn run(rt: &HostRuntime) -> anyhow::Result<bool> {
-    let heap = rt.alloc();
-    let mut buffer = [0u8; LOOKED_AT];
-    let length = front(rt, &mut buffer)?;
-    let file = &buffer[0..length];
-    let mut chart = Chart::new(heap)?;
-    match chart.read(file) {
-        Ok(()) => {
-            rt.print(report::accepted(heap, &chart)?)?;
-            links(rt, &chart)?;
-            Ok(true)
-        }
-        Err(fault) => {
-            rt.print(report::refused(heap, file, fault)?)?;
-            Ok(false)
-        }
-    }
-}
-
 // Ends with status 0 for a chart, and with 1 for a file that is refused.
 fn main(rt: HostRuntime) -> anyhow::Result<ExitCode> {
-    if run(&rt)? {
-        Ok(ExitCode::SUCCESS)
-    } else {
-        Ok(ExitCode::FAILURE)
+    let heap = rt.alloc();
+    let file = front(heap, rt.stdin(), LOOKED_AT)?;
+    let mut chart = Chart::new(heap)?;
+    if let Err(fault) = chart.read(file.as_slice()) {
+        rt.print(report::refused(heap, file.as_slice(), fault)?)?;
+        return Ok(ExitCode::FAILURE);
     }
+    rt.print(report::accepted(heap, &chart)?)?;
+    links(&rt, &chart)?;
+    Ok(ExitCode::SUCCESS)
 }

@@ -1,88 +1,90 @@
 // What took place, in words.
-use acts::{Act, Letter};
+use acts::{Act, Message};
 use channel::channel::Channel;
 use chart::chart::Chart;
 use conversation::order::Order;
 use conversation::run::run;
-use fault::{ChannelCause, ChartCause, Fault, FileCause, Layer};
+use fault::{ChartCause, Fault, Layer};
 use std::alloc::{AllocError, Global};
-
-// The longest chart file.
-const LONGEST: usize = 591;
+use std::fmt;
 
 // Bytes in one line of hexadecimal digits.
 const WIDTH: usize = 16;
 
-// What an act does.
-fn act_words(heap: Global, act: Act) -> Result<String, AllocError> {
-    let name = act.name;
-    let peer = act.peer;
-    match act.letter {
-        Letter::Send => format!(in heap; " sends {name} to {peer}"),
-        Letter::Receive => format!(in heap; " receives {name} from {peer}"),
-    }
-}
-
 // One party's line, act by act.
-fn line_words(heap: Global, party: u8, acts: &[Act]) -> Result<String, AllocError> {
-    let mut text = format!(in heap; "party {party}:")?;
-    for (at, act) in acts.iter().enumerate() {
-        if at > 0 {
-            text.push_str(",")?;
-        }
-        text.push_str(act_words(heap, *act)?.as_str())?;
-    }
-    if acts.is_empty() {
-        text.push_str(" no acts")?;
-    }
-    text.push_str("\n")?;
-    Ok(text)
+#[derive(Drop)]
+struct PartyLine<'a> {
+    party: u8,
+    acts: &'a [Act],
 }
 
-// Bytes as pairs of hexadecimal digits, sixteen to a line, each line with its offset, of which the
-// first is given; the marked byte stands in brackets.
-fn hex_words(
-    heap: Global,
-    bytes: &[u8],
-    offset: usize,
-    mark: Option<usize>,
-) -> Result<String, AllocError> {
-    let mut text = String::new(heap);
-    for (at, byte) in bytes.iter().enumerate() {
-        if at % WIDTH == 0 {
-            let place = offset.saturating_add(at);
-            text.push_str(format!(in heap; "{place:>5} ")?.as_str())?;
-        }
-        let spot = mark == Some(at);
-        let digits = if spot {
-            format!(in heap; " [{byte:02x}]")?
-        } else {
-            format!(in heap; " {byte:02x}")?
+impl<'a> fmt::Display for PartyLine<'a> {
+    fn fmt<W: fmt::Write>(&self, f: &mut fmt::Formatter<W>) -> fmt::Result {
+        let party = self.party;
+        let Some((first, others)) = self.acts.split_first() else {
+            return writeln!(f, "party {party}: no acts");
         };
-        text.push_str(digits.as_str())?;
-        if at % WIDTH == WIDTH - 1 {
-            text.push_str("\n")?;
+        write!(f, "party {party}: {first}")?;
+        for act in others {
+            write!(f, ", {act}")?;
         }
+        writeln!(f)
     }
-    if bytes.len() % WIDTH != 0 {
-        text.push_str("\n")?;
+}
+
+// A line of bytes as pairs of hexadecimal digits, with the place of the first; the marked byte
+// stands in brackets.
+#[derive(Drop)]
+struct HexLine<'a> {
+    place: usize,
+    bytes: &'a [u8],
+    mark: Option<usize>,
+}
+
+impl<'a> fmt::Display for HexLine<'a> {
+    fn fmt<W: fmt::Write>(&self, f: &mut fmt::Formatter<W>) -> fmt::Result {
+        let place = self.place;
+        write!(f, "{place:>5} ")?;
+        for (at, byte) in self.bytes.iter().enumerate() {
+            if self.mark == Some(at) {
+                write!(f, " [{byte:02x}]")?;
+            } else {
+                write!(f, " {byte:02x}")?;
+            }
+        }
+        writeln!(f)
+    }
+}
+
+// The chart's file as written back.
+fn file_words(heap: Global, chart: &Chart) -> Result<String, AllocError> {
+    let mut output = vec![in heap; 0u8; chart.file_length()]?;
+    let Ok(length) = chart.write(output.as_mut_slice()) else {
+        return Ok(String::new(heap));
+    };
+    let mut text = format!(in heap; "its file of {length} bytes\n")?;
+    for (row, bytes) in output.as_slice().chunks(WIDTH).enumerate() {
+        let line = HexLine {
+            place: row.saturating_mul(WIDTH),
+            bytes,
+            mark: None,
+        };
+        write!(text, "{line}")?;
     }
     Ok(text)
 }
 
-// A chart: its parties, their lines, and its file as written back.
+// A chart: its parties, their lines, and its file.
 pub fn accepted(heap: Global, chart: &Chart) -> Result<String, AllocError> {
     let parties = chart.parties();
     let size = chart.size();
     let mut text = format!(in heap; "a chart of {parties} parties and {size} acts\n")?;
     for party in 0..parties {
-        text.push_str(line_words(heap, party, chart.line(party))?.as_str())?;
+        let acts = chart.line(party);
+        let line = PartyLine { party, acts };
+        write!(text, "{line}")?;
     }
-    let mut output = [0u8; LONGEST];
-    if let Ok(length) = chart.write(&mut output) {
-        text.push_str(format!(in heap; "its file of {length} bytes\n")?.as_str())?;
-        text.push_str(hex_words(heap, &output[0..length], 0, None)?.as_str())?;
-    }
+    text.push_str(file_words(heap, chart)?.as_str())?;
     Ok(text)
 }
 
@@ -101,26 +103,28 @@ pub fn link_words<C: Channel>(
     let mut text = format!(in heap; "over {link}: a conversation\n")?;
     for act in order.acts() {
         let party = act.party;
-        text.push_str(format!(in heap; "  {party}")?.as_str())?;
-        text.push_str(act_words(heap, *act)?.as_str())?;
-        text.push_str("\n")?;
+        writeln!(text, "  {party} {act}")?;
     }
     Ok(text)
 }
 
-fn cause_words(layer: Layer) -> &'static str {
-    match layer {
-        Layer::File(FileCause::Ends) => "the file ends where more is due",
-        Layer::File(FileCause::NotAllowed) => "this command is not allowed here",
-        Layer::File(FileCause::OutOfRange) => "this operand is out of range",
-        Layer::File(FileCause::LineFull) => "this would be the 33rd act of its line",
-        Layer::File(FileCause::GoesOn) => "the chart is complete, and bytes follow",
-        Layer::Chart(ChartCause::NotPaired) => "a message is not sent as often as it is received",
-        Layer::Chart(ChartCause::NotPlayable) => "no playing order holds all acts",
-        Layer::Channel(ChannelCause::Denied) => "the channel does not grant the act",
-        Layer::Book(_) => "the call is not granted",
-        Layer::Session(_) => "the session cannot go on",
+// The line of the file that has the spot, and whether the file ends there.
+fn spot_words(heap: Global, file: &[u8], place: u64) -> Result<String, AllocError> {
+    let spot = usize::try_from(place).map_or(file.len(), |spot| spot.min(file.len()));
+    let row = spot / WIDTH;
+    let mut text = String::new(heap);
+    if let Some(bytes) = file.chunks(WIDTH).nth(row) {
+        let line = HexLine {
+            place: row * WIDTH,
+            bytes,
+            mark: Some(spot % WIDTH),
+        };
+        write!(text, "{line}")?;
     }
+    if spot == file.len() {
+        text.push_str("      [end]\n")?;
+    }
+    Ok(text)
 }
 
 // What the place of a refusal means: a spot of the file, a message, or a number of acts.
@@ -128,9 +132,11 @@ fn place_words(heap: Global, file: &[u8], fault: Fault) -> Result<String, AllocE
     let place = fault.place;
     match fault.layer {
         Layer::Chart(ChartCause::NotPaired) => {
-            let name = place % 32;
-            let sender = place / 32 / 6;
-            let receiver = place / 32 % 6;
+            let Message {
+                sender,
+                receiver,
+                name,
+            } = Message::numbered(place);
             format!(in heap; "the message {name} from {sender} to {receiver}\n")
         }
         Layer::Chart(ChartCause::NotPlayable) => {
@@ -140,29 +146,9 @@ fn place_words(heap: Global, file: &[u8], fault: Fault) -> Result<String, AllocE
     }
 }
 
-// The line of the file that has the spot, or what stands before its end.
-fn spot_words(heap: Global, file: &[u8], place: u64) -> Result<String, AllocError> {
-    let length = file.len();
-    let spot = match usize::try_from(place) {
-        Ok(spot) => spot.min(length),
-        Err(_) => length,
-    };
-    let start = spot - spot % WIDTH;
-    let end = start.saturating_add(WIDTH).min(length);
-    if spot < length {
-        return hex_words(heap, &file[start..end], start, Some(spot - start));
-    }
-    let mut text = hex_words(heap, &file[start..end], start, None)?;
-    text.push_str("      [end]\n")?;
-    Ok(text)
-}
-
-// A refusal: its number and place, what it means, and the spot.
+// A refusal: what it is, and the spot.
 pub fn refused(heap: Global, file: &[u8], fault: Fault) -> Result<String, AllocError> {
-    let number = fault.number();
-    let place = fault.place;
-    let cause = cause_words(fault.layer);
-    let mut text = format!(in heap; "refused with {number} at {place}: {cause}\n")?;
+    let mut text = format!(in heap; "{fault}\n")?;
     text.push_str(place_words(heap, file, fault)?.as_str())?;
     Ok(text)
 }

@@ -1,5 +1,5 @@
 -- A chart's lines run over a channel: one act, no act, the end.
-use Rattle.std.proofs.Common.{◌≡◌, ℕ, ◌+◌, ◌<◌, ◌≤◌, Bool, true, false, cond, ◌&&◌, eqb, List, [], ◌∷◌, ◌++◌, length, get_or, set, replicate, sym, refl, ap, ◌∙◌, subst, append_assoc, append-nil, arith}
+use Rattle.std.proofs.Common.{◌≡◌, ℕ, ◌+◌, ◌<◌, ◌≤◌, Bool, true, false, cond, ◌&&◌, eqb, List, [], ◌∷◌, ◌++◌, length, Some, None, sym, refl, ap, ◌∙◌, subst, append_assoc, append-nil, arith}
 use Rattle.std.proofs.lemmas.Bool.{and_parts, eqb-true, lt-ltb}
 use Rattle.acts.specs.declared.Act.{Act}
 use Rattle.acts.specs.declared.Letter.{Letter}
@@ -11,12 +11,12 @@ use Rattle.acts.proofs.Counts.{tally-part, sender, receiver}
 use Rattle.acts.proofs.Running.{full_parts, full_size}
 use Rattle.acts.proofs.Stuck.{stuck_longest}
 use Rattle.lines.specs.Charts.{Paired}
-use Rattle.lines.specs.Progress.{Within}
-use Rattle.lines.proofs.Progress.{Halted, halts_read, within_more, parts_more, read_next, less_left, parts_along, parts_none}
+use Rattle.lines.specs.Progress.{Within, next_act, passed}
+use Rattle.lines.proofs.Steps.{passed_is, within_more, parts_more, less_left, halts, parts_along}
 use Rattle.lines.proofs.Tallies.{tally-push}
-use Rattle.channel.specs.Meaning.{Meaning, Lawful, cleared, carried, tried}
+use Rattle.channel.specs.Meaning.{Meaning, Lawful, cleared, carried}
 use Rattle.conversation.specs.Conversations.{Reached}
-use Rattle.conversation.specs.Running.{Going, Moved, Stood, Ran, noted}
+use Rattle.conversation.specs.Running.{Moved, Stepped, Ran, noted}
 
 -- clear brings a channel to the empty list
 pub reached_clear : (G : List Act → Bool) (m : Meaning) → m.clearly ≡ G → G [] ≡ true → Reached G (cleared m) []
@@ -26,10 +26,6 @@ reached_clear G m e h = record {
   onward = λ l. ap (λ (F : List Act → Bool). F l) e;
   waits = λ s r k. omega arith;
 }
-
--- after clear nothing but the lists from clear matters
-pub cleared_same : (m n : Meaning) → m.clearly ≡ n.clearly → cleared m ≡ cleared n
-cleared_same m n e i = record { clearly = e i; grants = e i; waits = λ s r k. 0 }
 
 is_receive_lem : (l : Letter) → is_receive l ≡ true → l ≡ Receive
 is_receive_lem Send e = let z : ◌≡◌ {A = ℕ} 0 1 = cc in absurd (omega arith)
@@ -76,44 +72,32 @@ reached_on G m w a L h R =
           omega arith;
     }
 
--- the party p does its next act, as the code has it: x is any default
-pub moved : (c : Lines) (m n : Meaning) (done : List ℕ) (p : ℕ) (l : List Act) (x : Act) (b : Bool) → l ≡ line c p → length l ≤ 32
-    → Within c done → p < length done → get_or done p 0 < length l → b ≡ true
-    → b ≡ m.grants (get_or l (get_or done p 0) x ∷ []) → n ≡ tried b (get_or l (get_or done p 0) x) m
-    → Moved c m done (get_or l (get_or done p 0) x) n (set done p (get_or done p 0 + 1))
-moved c m n done p l x b e short W hp hd yes' test after =
-    let a : Act = get_or l (get_or done p 0) x in
-    let size = ap length e in
-    let hd' : get_or done p 0 < length (line c p) = omega arith in
-    let is : a ≡ get_or (line c p) (get_or done p 0) a = read_next c p (get_or done p 0) l x e hd in
-    let done' : n ≡ carried a m = after ∙ ap (λ (y : Bool). tried y a m) yes' in
-    record {
-      within = within_more c done p a hp hd' is W;
-      less = less_left done p hp (omega arith);
-      on = λ O G L w g. record {
-        reached = subst (λ (y : Meaning). Reached G y (w ++ (a ∷ []))) (sym done') (reached_on G m w a L (sym test ∙ yes') g.reached);
-        parts = parts_more c done p a hp hd' is O w g.parts;
-      };
-    }
+-- the party p does its next act a
+pub moved : (c : Lines) (m n : Meaning) (done : List ℕ) (p : ℕ) (a : Act) → p < length done → next_act c done p ≡ Some a → length (line c p) ≤ 32
+    → Within c done → m.grants (a ∷ []) ≡ true → n ≡ carried a m → Stepped c m done (Some a) n (passed c done p)
+moved c m n done p a hp is short W yes' after = subst (Moved c m done a n) (sym (passed_is c done p a hp is)) (record {
+  within = within_more c done p a hp is W;
+  less = less_left c done p a hp is short;
+  on = λ O G L w g. record {
+    reached = subst (λ (y : Meaning). Reached G y (w ++ (a ∷ []))) (sym after) (reached_on G m w a L yes' g.reached);
+    parts = parts_more c done p a hp is O w g.parts;
+  };
+})
 
-pub stood : (c : Lines) (m n : Meaning) (done more : List ℕ) → n ≡ m → more ≡ done
-    → ((p : ℕ) → Halted (λ a. m.grants (a ∷ [])) c done p) → Stood c m done n more
-stood c m n done more e f stop = record {
-  same = f;
-  meaning = e;
+-- no line can go on
+pub stood : (c : Lines) (m : Meaning) (done : List ℕ) → ((p : ℕ) (a : Act) → next_act c done p ≡ Some a → m.grants (a ∷ []) ≡ false)
+    → Stepped c m done None m done
+stood c m done none = record {
+  same = refl;
+  meaning = refl;
   stuck = λ G w g. record {
     granted = g.reached.granted;
     along = parts_along c done w g.parts;
     refused = λ a rest k.
         sym (g.reached.onward (a ∷ []))
-        ∙ stop a.party a rest (ap (λ (y : List Act). y ++ (a ∷ rest)) (sym (g.parts a.party)) ∙ k);
+        ∙ halts (λ b. m.grants (b ∷ [])) c done a.party (none a.party) a rest (ap (λ (y : List Act). y ++ (a ∷ rest)) (sym (g.parts a.party)) ∙ k);
   };
 }
-
--- at the outset nothing is done
-pub outset : (G : List Act → Bool) (m n : Meaning) (c : Lines) → Lawful G → m.clearly ≡ G → n ≡ cleared m → Going G n c (replicate 6 0) []
-outset G m n c L e k = subst (λ (y : Meaning). Going G y c (replicate 6 0) []) (sym k)
-    (record { reached = reached_clear G m e L.diamond.empty; parts = parts_none c 6 })
 
 -- where all acts are done, a paired chart leaves nothing waiting
 quiet : (c : Lines) (w : List Act) → Paired c → ((p : ℕ) → part p w ≡ line c p) → Quiet w
@@ -140,28 +124,6 @@ ended G c w L O P S =
           let b = most.most v k.granted (λ p. ([], append-nil (part p v) ∙ k.lines p)) in
           omega arith;
     }
-
--- the two ways of a turn, as the code has them: nothing was done before it since the first done and the start
-module _ (c : Lines) (start m n : Meaning) (first done : List ℕ) (p : ℕ) (l : List Act) (x : Act) (b : Bool) (em : m ≡ start)
-    (ed : done ≡ first) (e : l ≡ line c p) (hd : get_or done p 0 < length l)
-    (test : b ≡ m.grants (get_or l (get_or done p 0) x ∷ [])) (after : n ≡ tried b (get_or l (get_or done p 0) x) m) where
-  pub moved_from : length l ≤ 32 → Within c first → p < length done → true ≡ b
-      → Moved c start first (get_or l (get_or done p 0) x) n (set done p (get_or done p 0 + 1))
-  moved_from short W hp yes' =
-      let a : Act = get_or l (get_or done p 0) x in
-      let more : List ℕ = set done p (get_or done p 0 + 1) in
-      subst (λ (y : List ℕ). Moved c start y a n more) ed
-      (subst (λ (y : Meaning). Moved c y done a n more) em
-      (moved c m n done p l x b e short (subst (Within c) (sym ed) W) hp hd (sym yes') test after))
-
-  pub kept_from : false ≡ b → n ≡ start
-  kept_from no' = after ∙ ap (λ (y : Bool). tried y (get_or l (get_or done p 0) x) m) (sym no') ∙ em
-
-  pub halted_from : false ≡ b → Halted (λ a. start.grants (a ∷ [])) c first p
-  halted_from no' =
-      subst (λ (y : List ℕ). Halted (λ a. start.grants (a ∷ [])) c y p) ed
-      (halts_read (λ a. start.grants (a ∷ [])) c done p l x e hd
-      (ap (λ (y : Meaning). y.grants (get_or l (get_or done p 0) x ∷ [])) (sym em) ∙ sym test ∙ sym no'))
 
 -- one act more noted, where there was room
 pub noted_more : (w v : List Act) (a : Act) (k : ℕ) → length w ≡ k → k < 192 → v ≡ noted w a → v ≡ w ++ (a ∷ [])

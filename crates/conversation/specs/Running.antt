@@ -1,10 +1,11 @@
 -- A chart's lines run over a channel, act by act.
-use Rattle.std.specs.Prelude.{◌≡◌, ℕ, ◌<◌, Bool, cond, List, [], ◌∷◌, ◌++◌, length, Some, None, Option, nat_lt}
+use Rattle.std.specs.Prelude.{◌≡◌, ℕ, ◌<◌, Bool, List, [], ◌∷◌, ◌++◌, length, Some, None, Option}
 use Rattle.acts.specs.declared.Act.{Act}
 use Rattle.acts.specs.Acts.{part, Lines, Own}
 use Rattle.acts.specs.Language.{Longest, size}
 use Rattle.acts.specs.Theorems.{Stuck}
 use Rattle.lines.specs.Progress.{Within, so_far, left}
+use Rattle.lines.specs.Pushed.{added}
 use Rattle.channel.specs.Meaning.{Meaning, Lawful}
 use Rattle.conversation.specs.Conversations.{Conversation, Reached}
 
@@ -40,4 +41,4 @@ pub record Ran (G : List Act → Bool) (c : Lines) (w : List Act) (k : ℕ) : Ty
 
 -- one act more where there is room
 abbrev pub noted : List Act → Act → List Act
-noted w a = cond (nat_lt (length w) 192) (w ++ (a ∷ [])) w
+noted w a = added 192 w a

@@ -6,42 +6,15 @@
 use chart::chart::Chart;
 use std::alloc::{AllocError, Global};
 
-// The longest chart file.
-const LONGEST: usize = 591;
-
-fn digit(letter: u8) -> u8 {
-    match letter {
-        b'0'..=b'9' => letter - b'0',
-        b'a'..=b'f' => letter - b'a' + 10,
-        _ => 0,
-    }
-}
-
-// The bytes that pairs of digits spell.
-fn decoded(heap: Global, text: &str) -> Result<Vec<u8>, AllocError> {
-    let mut bytes = Vec::new(heap);
-    let mut high = None;
-    for letter in text.bytes() {
-        match high {
-            None => high = Some(digit(letter)),
-            Some(first) => {
-                bytes.push(digit(letter) | first.wrapping_mul(16))?;
-                high = None;
-            }
-        }
-    }
-    Ok(bytes)
-}
-
 fn answered(heap: Global, chart: &mut Chart, file: &[u8]) -> Result<String, AllocError> {
     if let Err(fault) = chart.read(file) {
         let number = fault.number();
         let place = fault.place;
         return format!(in heap; "{number} {place}");
     }
-    let mut output = [0u8; LONGEST];
-    match chart.write(&mut output) {
-        Ok(length) if &output[0..length] == file => format!(in heap; "0 {length}"),
+    let mut output = vec![in heap; 0u8; chart.file_length()]?;
+    match chart.write(output.as_mut_slice()) {
+        Ok(length) if output.as_slice() == file => format!(in heap; "0 {length}"),
         _ => String::from_str(heap, "written otherwise"),
     }
 }
@@ -50,7 +23,7 @@ fn main(rt: HostRuntime) -> anyhow::Result<()> {
     let heap = rt.alloc();
     let mut chart = Chart::new(heap)?;
     for line in rt.lines(heap) {
-        let file = decoded(heap, line?.as_str())?;
+        let file = hex::decode(heap, line?.as_str())?;
         let text = answered(heap, &mut chart, file.as_slice())?;
         println!(rt; "{text}")?;
     }

@@ -1,23 +1,20 @@
 #![tactic(auto)]
 
-ghost use Rattle.std.specs.Prelude.{◌≤◌, length, IfOk};
+ghost use Rattle.std.specs.Prelude.{◌≡◌, ◌≤◌, take, IfSome, IfOk, vec_len};
 
+use std::alloc::Global;
 use std::io;
 use std::io::Read;
 
-// Fills the buffer from standard input, until it is full or the input ends, and answers how many
-// bytes came. An input may come in pieces.
-pub fn front(rt: &HostRuntime, buffer: &mut [u8]) -> io::Result<usize>
-    ensures { IfOk result (λ n. n ≤ length buffer.old) }
+// The bytes of the input, and the first of them where there are more than `most`. An input may come
+// in pieces.
+pub fn front<R: Read + Drop>(heap: Global, input: R, most: usize) -> io::Result<Vec<u8>>
+    ensures bound { IfOk result (λ v. vec_len v ≤ most) }
+    ensures bytes { IfOk result (λ v. IfSome (R.remaining input) (λ xs. v.items ≡ take most xs)) }
 {
-    let mut input = rt.stdin();
-    let mut length = 0;
-    for _ in 0..buffer.len() {
-        let more = input.read(&mut buffer[length..])?;
-        if more == 0 {
-            break;
-        }
-        length += more;
-    }
-    Ok(length)
+    let mut bytes = Vec::new(heap);
+    let mut front = input.take(most as u64);
+    front.read_to_end(&mut bytes)?;
+    bytes.truncate(most); // a reader of which nothing is known may give more
+    Ok(bytes)
 }

@@ -1,5 +1,5 @@
 pub mod Sheets
 pub mod Tallies
 pub mod Pairings
-pub mod Progress
+pub mod Steps
 pub mod Plays

@@ -1,5 +1,5 @@
 -- A run along the lines without a channel, step by step and at its end.
-use Rattle.std.proofs.Common.{◌≡◌, ℕ, ◌+◌, ◌<◌, ◌≤◌, true, false, ◌||◌, ltb, List, [], ◌∷◌, ◌++◌, length, get_or, set, replicate, sym, refl, ap, ◌∙◌, arith}
+use Rattle.std.proofs.Common.{◌≡◌, ℕ, ◌<◌, ◌≤◌, true, false, ◌||◌, ltb, List, ◌∷◌, ◌++◌, length, Some, sym, refl, ap, ◌∙◌, subst}
 use Rattle.std.proofs.lemmas.Bool.{true≢false, false≢true}
 use Rattle.acts.specs.declared.Act.{Act}
 use Rattle.acts.specs.Acts.{sends, receives, is_send, send_of, receive_of, Lines, line}
@@ -10,8 +10,8 @@ use Rattle.acts.proofs.Playing.{plays_more, plays_refused, plays_diamond, plays_
 use Rattle.acts.proofs.Stuck.{stuck_longest}
 use Rattle.lines.specs.Charts.{LongestOrder}
 use Rattle.lines.specs.Playing.{ready_by, Going, Advanced}
-use Rattle.lines.specs.Progress.{Within, so_far}
-use Rattle.lines.proofs.Progress.{Halted, within_more, parts_more, read_next, less_left, parts_along, within_none, parts_none}
+use Rattle.lines.specs.Progress.{Within, so_far, next_act, passed}
+use Rattle.lines.proofs.Steps.{passed_is, within_more, parts_more, less_left, halts, parts_along}
 
 -- how far the parties have come tells what can be played next
 pub ready_here : (c : Lines) (done : List ℕ) (w : List Act) → Going c done w → (a : Act) → ready w a ≡ ready_by c done a
@@ -24,30 +24,25 @@ ready_here c done w g a =
     ap (λ (k : ℕ). is_send a.letter || ltb k (sends s r m w)) er
     ∙ ap (λ (k : ℕ). is_send a.letter || ltb (receives s r m (so_far c done r)) k) es
 
--- one step of the run, as the code has it: x is the next act, read at any default
-pub moved : (c : Lines) (done : List ℕ) (p : ℕ) (l : List Act) (x : Act) → l ≡ line c p → length l ≤ 32 → Within c done → p < length done
-    → get_or done p 0 < length l → true ≡ ready_by c done (get_or l (get_or done p 0) x) → Advanced c done true (set done p (get_or done p 0 + 1))
-moved c done p l x e short W hp hd r =
-    let a : Act = get_or l (get_or done p 0) x in
-    let size = ap length e in
-    let hd' : get_or done p 0 < length (line c p) = omega arith in
-    let is : a ≡ get_or (line c p) (get_or done p 0) a = read_next c p (get_or done p 0) l x e hd in
+-- one step of the run: a is the next act of the party p
+pub moved : (c : Lines) (done : List ℕ) (p : ℕ) (a : Act) → p < length done → next_act c done p ≡ Some a → length (line c p) ≤ 32 → Within c done
+    → ready_by c done a ≡ true → Advanced c done true (passed c done p)
+moved c done p a hp is short W r = subst (Advanced c done true) (sym (passed_is c done p a hp is)) (record {
+  within = within_more c done p a hp is W;
+  less = λ _. less_left c done p a hp is short;
+  on = λ O _ w g. (
+    a,
     record {
-      within = within_more c done p a hp hd' is W;
-      less = λ _. less_left done p hp (omega arith);
-      on = λ O _ w g. (
-        a,
-        record {
-          playing = plays_more w a g.playing (ready_here c done w g a ∙ sym r);
-          parts = parts_more c done p a hp hd' is O w g.parts;
-        },
-      );
-      stands = λ O f. absurd (true≢false f);
-    }
+      playing = plays_more w a g.playing (ready_here c done w g a ∙ r);
+      parts = parts_more c done p a hp is O w g.parts;
+    },
+  );
+  stands = λ O f. absurd (true≢false f);
+})
 
 -- where every line halts, the playing order is stuck
-pub stood : (c : Lines) (done : List ℕ) → Within c done → ((p : ℕ) → Halted (ready_by c done) c done p) → Advanced c done false done
-stood c done W stop = record {
+pub stood : (c : Lines) (done : List ℕ) → Within c done → ((p : ℕ) (a : Act) → next_act c done p ≡ Some a → ready_by c done a ≡ false) → Advanced c done false done
+stood c done W none = record {
   within = W;
   less = λ f. absurd (false≢true f);
   on = λ O f. absurd (false≢true f);
@@ -55,13 +50,9 @@ stood c done W stop = record {
     granted = g.playing;
     along = parts_along c done w g.parts;
     refused = λ a rest e. plays_refused w a
-        (ready_here c done w g a ∙ stop a.party a rest (ap (λ (x : List Act). x ++ (a ∷ rest)) (sym (g.parts a.party)) ∙ e));
+        (ready_here c done w g a ∙ halts (ready_by c done) c done a.party (none a.party) a rest (ap (λ (x : List Act). x ++ (a ∷ rest)) (sym (g.parts a.party)) ∙ e));
   };
 }
-
--- at the outset nothing is played
-pub outset : (c : Lines) → Within c (replicate 6 0) × Going c (replicate 6 0) []
-outset c = (within_none c 6, record { playing = refl; parts = parts_none c 6 })
 
 -- at the end the playing order is a longest one
 pub ended : (c : Lines) (w : List Act) → Stuck plays c w → LongestOrder c (length w)

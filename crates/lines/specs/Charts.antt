@@ -1,5 +1,5 @@
 -- What the lines of a chart keep: they are paired, and they can be played.
-use Rattle.std.specs.Prelude.{◌≡◌, ℕ, ◌+◌, ◌*◌, ◌<◌, ◌≤◌, List, [], ◌∷◌, ◌++◌, length}
+use Rattle.std.specs.Prelude.{◌≡◌, ℕ, ◌<◌, ◌≤◌, List, [], ◌∷◌, ◌++◌, length}
 use Rattle.std.specs.List.{AllByRecursion}
 use Rattle.acts.specs.declared.Act.{Act}
 use Rattle.acts.specs.declared.Message.{Message}

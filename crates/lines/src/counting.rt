@@ -1,3 +1,5 @@
+#![tactic(auto, using(crate::proofs::Tallies::tally_count))]
+
 ghost use Rattle.std.specs.Prelude.{◌≡◌};
 ghost use Rattle.acts.specs.Acts.{sends, receives};
 
@@ -7,24 +9,12 @@ use acts::{Act, Message};
 pub fn sends_of(acts: &[Act], message: Message) -> usize
     ensures { result ≡ sends message.sender message.receiver message.name acts.now }
 {
-    let mut sent = 0;
-    for act in acts {
-        if act.sends(message) {
-            sent += 1;
-        }
-    }
-    sent
+    acts.iter().filter(|act| act.sends(message)).count()
 }
 
 // How often the acts receive the message.
 pub fn receives_of(acts: &[Act], message: Message) -> usize
     ensures { result ≡ receives message.sender message.receiver message.name acts.now }
 {
-    let mut received = 0;
-    for act in acts {
-        if act.receives(message) {
-            received += 1;
-        }
-    }
-    received
+    acts.iter().filter(|act| act.receives(message)).count()
 }

@@ -1,4 +1,4 @@
-ghost use Rattle.std.specs.Prelude.{◌≡◌, ◌≤◌, vec_len};
+ghost use Rattle.std.specs.Prelude.{◌≡◌, ◌≤◌, length};
 
 use crate::party_line::PartyLine;
 
@@ -7,14 +7,16 @@ mod looking;
 mod pairing;
 mod playing;
 
+pub use filling::OutOfRange;
+
 // The lines of up to six parties, from party 0 up, of which so many have begun. Nothing says yet
 // that they make a chart.
 #[derive(Drop)]
 pub struct Sheet {
     parties: u8,
-    begun: u8,
-    lines: Vec<PartyLine>,
+    begun: u8, // no Vec of the lines begun: each line's memory stays reserved
+    lines: [PartyLine; 6],
     ghost few: { parties ≤ 6 },
     ghost within: { begun ≤ parties },
-    ghost six: { vec_len lines ≡ 6 },
+    ghost six: { length lines ≡ 6 },
 }

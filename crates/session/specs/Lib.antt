@@ -1,4 +1,5 @@
 pub mod Lines
 pub mod Sessions
+pub mod Course
 pub mod Stepping
 pub mod Going

@@ -1,41 +1,43 @@
 -- One command of a session, with the book that it calls.
-use Rattle.std.specs.Prelude.{◌≡◌, ℕ, suc, ◌<◌, ◌≤◌, Bool, List, [], ◌++◌, length, drop, Some, None, Option, Result}
+use Rattle.std.specs.Prelude.{◌≡◌, ℕ, suc, ◌<◌, ◌≤◌, Bool, List, ◌++◌, length, drop, Result}
 use Rattle.fault.specs.declared.Fault.{Fault}
 use Rattle.acts.specs.declared.Act.{Act}
-use Rattle.acts.specs.Acts.{Lines}
-use Rattle.channel.specs.Meaning.{Meaning}
 use Rattle.files.specs.Reading.{reading}
 use Rattle.book.specs.History.{History}
-use Rattle.book.specs.Past.{Past}
+use Rattle.book.specs.Past.{Standing, Past}
 use Rattle.session.specs.Lines.{answer_text}
 use Rattle.session.specs.Sessions.{adds, transcript}
+use Rattle.session.specs.Course.{Course}
 
 -- a file is read and its chart added, after any past
-pub record Added (G : List Act → Bool) (h : History) (id : ℕ) (file : List ℕ) (r : Result ℕ Fault) (n : Meaning) (t : ℕ → Option Lines) : Type 0 where
+pub record Added (G : List Act → Bool) (h : History) (id : ℕ) (file : List ℕ) (r : Result ℕ Fault) (is : Standing) : Type 0 where
   pub line : answer_text 65 r ≡ (adds G h id (reading file)).line
-  pub past : Past G (adds G h id (reading file)).past n t
+  pub past : Past G (adds G h id (reading file)).past is
 
-abbrev pub Adds : Meaning → (ℕ → Option Lines) → ℕ → List ℕ → Result ℕ Fault → Meaning → (ℕ → Option Lines) → Type 0
-Adds m s id file r n t = (G : List Act → Bool) (h : History) → Past G h m s → Added G h id file r n t
+abbrev pub Adds : Standing → ℕ → List ℕ → Result ℕ Fault → Standing → Type 0
+Adds was id file r is = (G : List Act → Bool) (h : History) → Past G h was → Added G h id file r is
 
--- the text of what follows, if anything does
-abbrev pub following : ℕ → (List Act → Bool) → History → List ℕ → Option ℕ → List ℕ
-following k G h session None = []
-following k G h session (Some to) = transcript k G h (length session) to (drop to session)
+-- a session cannot go on: a line, and no byte is left
+pub record Stops (was : Course) (line : List ℕ) (is : Course) : Type 0 where
+  pub session : is.session ≡ was.session
+  pub place : is.place ≡ length was.session
+  pub text : is.text ≡ was.text ++ line
+  pub book : is.book ≡ was.book
 
--- the session goes on behind the command
-abbrev pub Onward : List ℕ → ℕ → Option ℕ → Type 0
-Onward session at None = Unit {0}
-Onward session at (Some to) = (at < to) × (to ≤ length session)
+-- what the session's text is from a place on, so many commands at most, after a past
+abbrev pub left : ℕ → (List Act → Bool) → History → (session : List ℕ) (place : ℕ) → List ℕ
+left k G h session place = transcript k G h (length session) place (drop place session)
 
--- a command gave a line, and the text of the session is that line and what follows
-pub record Stepped (G : List Act → Bool) (h : History) (session : List ℕ) (at : ℕ) (was : List ℕ) (next : Option ℕ) (is : List ℕ) (n : Meaning) (t : ℕ → Option Lines) : Type 0 where
+-- a command gave a line, the session goes on behind it, and the text from there on is that line and what follows
+pub record Stepped (G : List Act → Bool) (h : History) (was is : Course) : Type 0 where
   pub line : List ℕ
   pub past : History
-  pub text : is ≡ was ++ line
-  pub kept : Past G past n t
-  pub on : Onward session at next
-  pub rest : (k : ℕ) → transcript (suc k) G h (length session) at (drop at session) ≡ line ++ following k G past session next
+  pub session : is.session ≡ was.session
+  pub text : is.text ≡ was.text ++ line
+  pub kept : Past G past is.book
+  pub onward : was.place < is.place
+  pub within : is.place ≤ length was.session
+  pub rest : (k : ℕ) → left (suc k) G h was.session was.place ≡ line ++ left k G past was.session is.place
 
-abbrev pub Steps : Meaning → (ℕ → Option Lines) → List ℕ → ℕ → List ℕ → Option ℕ → List ℕ → Meaning → (ℕ → Option Lines) → Type 0
-Steps m s session at was next is n t = (G : List Act → Bool) (h : History) → Past G h m s → Stepped G h session at was next is n t
+abbrev pub Steps : Course → Course → Type 0
+Steps was is = (G : List Act → Bool) (h : History) → Past G h was.book → Stepped G h was is

@@ -1,3 +1,4 @@
 #![tactic(auto)]
 
+mod clerk;
 pub mod session;

@@ -1,4 +1,4 @@
-ghost use Rattle.std.specs.Prelude.{◌≡◌, ◌≤◌, true, ◌↔◌, List, [], ◌∷◌, length, IfOk};
+ghost use Rattle.std.specs.Prelude.{◌≡◌, ◌≤◌, List, [], ◌∷◌, length, IfOk};
 ghost use Rattle.acts.specs.Acts.{line};
 ghost use Rattle.acts.specs.Language.{size};
 ghost use Rattle.lines.specs.Charts.{IsChart};
@@ -49,22 +49,6 @@ impl Chart {
         ensures { result ≡ size (lines_in self.now) }
     {
         self.sheet.size()
-    }
-
-    // Whether the two charts have the same lines.
-    pub fn same_lines(&self, other: &Chart) -> bool
-        ensures { (result ≡ true) ↔ (lines_in self.now ≡ lines_in other.now) }
-    {
-        let parties = self.parties();
-        if parties != other.parties() {
-            return false;
-        }
-        for party in 0..parties {
-            if self.line(party) != other.line(party) {
-                return false;
-            }
-        }
-        true
     }
 
     // What every chart keeps.

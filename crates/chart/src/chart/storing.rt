@@ -10,7 +10,7 @@ use crate::chart::Chart;
 use crate::output::Output;
 use crate::reader::{check, fill};
 use crate::writer::write_line;
-use fault::{BookCause, Fault, Layer};
+use fault::{BookCause, Fault};
 use std::mem::swap;
 
 impl Chart {
@@ -38,6 +38,7 @@ impl Chart {
         ensures { Puts output.old (file_of (lines_in self.now)) output.new }
     {
         output.put(&[b'C', self.parties()]);
+        // By number, since a line's party is a byte of the file.
         for party in 0..self.parties() {
             write_line(output, party, self.line(party));
         }
@@ -51,10 +52,7 @@ impl Chart {
     {
         let due = self.file_length();
         if output.len() < due {
-            return Err(Fault {
-                layer: Layer::Book(BookCause::OutputShort),
-                place: due as u64,
-            });
+            return Err(Fault::new(BookCause::OutputShort, due));
         }
         self.put(&mut Output::new(output));
         Ok(due)

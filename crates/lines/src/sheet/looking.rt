@@ -37,10 +37,7 @@ impl Sheet {
     pub fn size(&self) -> usize
         ensures { result ≡ size (lines_of self.now) }
     {
-        let mut sum = 0;
-        for party in 0..self.begun {
-            sum += self.line(party).len();
-        }
-        sum
+        let begun = &self.lines[..usize::from(self.begun)];
+        begun.iter().map(|line| line.acts().len()).sum()
     }
 }

@@ -1,7 +1,5 @@
-ghost use Rattle.std.specs.Prelude.{◌≡◌, ℕ, ◌<◌, true, ◌↔◌, MatchOption};
-ghost use Rattle.acts.specs.declared.Message.{Message};
+ghost use Rattle.std.specs.Prelude.{◌≡◌, true, ◌↔◌, MatchOption};
 ghost use Rattle.lines.specs.Charts.{Pairs, FirstUnpaired, KnownPaired};
-ghost use Rattle.acts.specs.Acts.{Known, rank_of};
 ghost use Rattle.lines.specs.Of.{lines_of};
 
 use crate::counting::{receives_of, sends_of};
@@ -10,20 +8,6 @@ use acts::Message;
 
 // How many messages there are between six parties.
 const MESSAGES: u16 = 1152;
-
-// The message with a number.
-fn message_at(number: u16) -> Message
-    requires { number < 1152 }
-    ensures known { Known result }
-    ensures number { rank_of result ≡ number }
-{
-    let pair = number / 32;
-    Message {
-        sender: (pair / 6) as u8,
-        receiver: (pair % 6) as u8,
-        name: (number % 32) as u8,
-    }
-}
 
 impl Sheet {
     // Whether the message is sent on its sender's line as often as it is received on its
@@ -40,11 +24,6 @@ impl Sheet {
     pub fn first_unpaired(&self) -> Option<u16>
         ensures { MatchOption result (KnownPaired (lines_of self.now)) (λ k. FirstUnpaired (lines_of self.now) k) }
     {
-        for number in 0..MESSAGES {
-            if !self.pairs(message_at(number)) {
-                return Some(number);
-            }
-        }
-        None
+        (0..MESSAGES).find(|number| !self.pairs(Message::numbered(u64::from(*number))))
     }
 }

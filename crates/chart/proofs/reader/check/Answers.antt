@@ -1,4 +1,4 @@
-use Rattle.std.proofs.Common.{◌≡◌, ℕ, ◌<◌, length, refl, subst, arith}
+use Rattle.std.proofs.Common.{◌≡◌, ℕ, ◌<◌, length, refl, subst, arith, rules}
 use Rattle.acts.specs.Acts.{Lines}
 use Rattle.acts.specs.Language.{size}
 use Rattle.lines.specs.Charts.{LongestOrder}
@@ -18,7 +18,7 @@ returns-then-acts-size c L =
       acts = c.longest_order-acts.result;
       longest = c.longest_order-acts.ensures (begun_own (length cl) cl L);
       fewer = subst (λ (n : ℕ). c.longest_order-acts.result < n) c.size.ensures c.if-acts-size.true;
-      fault = refl;
+      fault = search rules;
     })
 
 pub returns : goal.returns

@@ -1,4 +1,4 @@
-use Rattle.chart.proofs.Putting.{act_room, act_more, line_whole}
+use Rattle.chart.proofs.Putting.{act_room, act_more}
 use Rattle.chart.proofs.writer.write_line.Goals as goal
 
 pub write_act-requires : goal.write_act-requires
@@ -10,7 +10,3 @@ pub loop-act-preserved : goal.loop-act-preserved
 loop-act-preserved c =
     act_more c.args.output.now c.loop-act.output c.write_act.new.output c.args.party c.loop-act.act-index c.args.acts.now _ c.requires
     c.loop-act-test.true c.loop-act.invariant c.write_act.ensures
-
-pub returns : goal.returns
-returns c =
-    line_whole c.args.output.now c.loop-act.output c.args.party c.loop-act.act-index c.args.acts.now c.loop-act-test.false c.loop-act.invariant

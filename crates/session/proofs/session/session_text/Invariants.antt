@@ -1,11 +1,10 @@
-use Rattle.std.proofs.Common.{◌-◌, length, string_bytes}
-use Rattle.book.specs.Past.{charts_of}
+use Rattle.std.proofs.Common.{◌-◌, length}
+use Rattle.session.specs.Course.{course}
 use Rattle.session.specs.Going.{Going}
 use Rattle.session.proofs.session.session_text.Given as goal
 
-abbrev pub invariant-loop-at : goal.invariant-loop-at
-invariant-loop-at g l =
-    Going (g.C.Channel.meaning l.initial.book.channel).clearly l.session l.at (string_bytes l.text) (g.C.Channel.meaning l.book.channel) (charts_of l.book)
+abbrev pub invariant-loop-clerk : goal.invariant-loop-clerk
+invariant-loop-clerk g l = Going (g.C.Channel.meaning l.initial.clerk.book.channel).clearly l.session (course l.clerk)
 
-abbrev pub decreases-loop-at : goal.decreases-loop-at
-decreases-loop-at g l = length l.session - l.at
+abbrev pub decreases-loop-clerk : goal.decreases-loop-clerk
+decreases-loop-clerk g l = length l.session - l.clerk.place

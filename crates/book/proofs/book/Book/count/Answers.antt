@@ -1,27 +1,29 @@
-use Rattle.std.proofs.Common.{◌≡◌, ℕ, ◌<◌, Bool, cond, List, length, get_or, vec_items, Option, sym, ap, ◌∙◌, arith}
-use Rattle.chart.specs.declared.chart.Chart.{Chart}
-use Rattle.book.specs.Past.{charts_of}
-use Rattle.book.proofs.Tables.{counted_more, read_some}
+use Rattle.std.proofs.Common.{◌≡◌, ℕ, length, ap, ◌∙◌, arith, rules}
+use Rattle.std.specs.List.{flat_map}
+use Rattle.std.specs.Option.{option_to_list}
+use Rattle.std.proofs.lemmas.Iterator.{YieldsList-from_slice}
+use Rattle.std.proofs.lemmas.Iterator.Adapters.{YieldsList-from_flatten}
+use Rattle.std.proofs.lemmas.Iterator.Consumers.{count_from_yields_List}
+use Rattle.book.specs.History.{counted}
+use Rattle.book.specs.Past.{table_of}
+use Rattle.book.proofs.Slots.{one, few-slots, counted-slots}
 use Rattle.book.proofs.book.Book.count.Goals as goal
-use Rattle.book.proofs.book.Book.count.Goals.{then-is_some, else-is_some}
 
--- one chart more or none
-abbrev unit : Bool → ℕ
-unit b = cond b 1 0
+-- the chain gives the charts that are held
+given : (g : _) (c : goal.After-count g) → c.count.result ≡ length (flat_map option_to_list c.args.self.now.charts)
+given g c =
+    count_from_yields_List c.flatten.result c.count.result c.count.ensures.ran
+    (YieldsList-from_flatten _ _ (λ y. y.now) option_to_list (λ x j b. one x.now b.0 b.1) (YieldsList-from_slice c.args.self.now.charts cc)
+    c.flatten.ensures.front c.flatten.ensures.back c.flatten.ensures.done)
 
-pub loop-held-preserved : goal.loop-held-preserved
-loop-held-preserved g c =
-    let b = c.args.self.now in
-    let cs : List (Option Chart) = vec_items b.charts in
-    let i = c.loop-held.held-index in
-    let q : Option Chart = c.held-item.result in
-    let same = c.as_slice-held-items.ensures.value in
-    let len = ap length same in
-    let here : i < length cs = omega arith in
-    let is : q ≡ get_or cs i q = c.held-item.is ∙ ap (λ (xs : List (Option Chart)). get_or xs i q) same in
-    let more = counted_more i (charts_of b) in
-    let k = ap unit (read_some cs i q here is ∙ sym c.is_some.ensures) in
-    elim c.if-is_some.branch [
-      | then-is_some w ↦ let u = ap unit w.if-is_some.true in (omega (arith, w.count-is), omega (arith, w.count-is))
-      | else-is_some w ↦ let u = ap unit w.if-is_some.false in (omega (arith, w.count-is), omega (arith, w.count-is))
-    ]
+pub overflow_cast-result : goal.overflow_cast-result
+overflow_cast-result g c =
+    let long : length c.args.self.now.charts ≡ 8 = search rules in
+    let e = given g c in
+    omega (arith, few-slots c.args.self.now.charts)
+
+pub returns : goal.returns
+returns g c =
+    let cs = c.args.self.now.charts in
+    let long : length cs ≡ 8 = search rules in
+    given g c ∙ counted-slots cs ∙ ap (λ (k : ℕ). counted k (table_of cs)) long

@@ -1,7 +1,7 @@
 use Rattle.std.proofs.Common.{arith}
 use Rattle.acts.specs.Acts.{Lines}
 use Rattle.chart.specs.Of.{lines_in}
-use Rattle.chart.proofs.Putting.{line_room, end_room, line_more, file_whole}
+use Rattle.chart.proofs.Putting.{line_room, line_more, file_whole}
 use Rattle.chart.proofs.chart.Chart.put.Goals as goal
 
 pub write_line-requires : goal.write_line-requires
@@ -15,12 +15,6 @@ loop-party-preserved c =
     let cl : Lines = lines_in c.args.self.now in
     line_more c.args.output.now c.loop-party.output c.write_line.new.output c.loop-party.party cl c.line.result.now c.requires
     (omega (arith, c.parties-party-end.ensures.count, c.loop-party-test.true)) c.line.ensures.acts c.loop-party.invariant c.write_line.ensures
-
-pub put-requires-2 : goal.put-requires-2
-put-requires-2 c =
-    let cl : Lines = lines_in c.args.self.now in
-    end_room c.args.output.now c.loop-party.output c.loop-party.party cl c.requires
-    (omega (arith, c.parties-party-end.ensures.count, c.loop-party-test.false)) c.loop-party.invariant
 
 pub returns : goal.returns
 returns c =

@@ -1,9 +1,6 @@
-use Rattle.std.proofs.Common.{ℕ, List, sym, refl, subst}
+use Rattle.std.proofs.Common.{ℕ, List, refl, subst}
 use Rattle.std.proofs.lemmas.Result.{err_from_is_err_and}
 use Rattle.fault.specs.declared.Fault.{Fault}
-use Rattle.lines.specs.declared.sheet.Sheet.{Sheet}
-use Rattle.lines.specs.Charts.{IsChart}
-use Rattle.lines.specs.Of.{lines_of}
 use Rattle.files.specs.Answers.{Refused}
 use Rattle.chart.proofs.chart.Chart.read.Goals as goal
 
@@ -14,10 +11,3 @@ returns-in_err-check c =
     let h = c.in_ok-fill.ensures in
     let r : Refused c.args.file.now f = subst (λ (x : List ℕ). Refused x f) h.1 (c.in_err-check.ensures h.0) in
     rw (p.1, p.2) (r, refl)
-
-pub invariant_of-self-2 : goal.invariant_of-self-2
-invariant_of-self-2 c =
-    let h = c.in_ok-fill.ensures in
-    let k : IsChart (lines_of c.swap.new.x) =
-    subst (λ (x : Sheet). IsChart (lines_of x)) (sym c.swap.ensures.x_after) (c.in_ok-check.ensures h.0) in
-    record { lined = ∣ k.lined ∣₁; paired = k.paired; playable = ∣ k.playable ∣₁ }

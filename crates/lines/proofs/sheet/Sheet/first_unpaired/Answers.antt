@@ -1,20 +1,10 @@
-use Rattle.std.proofs.Common.{sym, refl, subst, inl, inr, arith}
-use Rattle.std.proofs.lemmas.Bool.{cases_lt}
-use Rattle.acts.specs.declared.Message.{Message}
-use Rattle.lines.specs.Charts.{Pairs}
-use Rattle.acts.specs.Acts.{rank_of}
+use Rattle.std.proofs.Common.{rules, tests}
+use Rattle.std.proofs.lemmas.Iterator.{first_from_Range}
 use Rattle.lines.specs.Of.{lines_of}
-use Rattle.lines.proofs.Pairings.{rank_same}
+use Rattle.lines.proofs.Pairings.{UnpairedAt, PairedAt, first_of, paired_at}
 use Rattle.lines.proofs.sheet.Sheet.first_unpaired.Goals as goal
 
-pub loop-number-preserved : goal.loop-number-preserved
-loop-number-preserved c t k h =
+pub returns : goal.returns
+returns c =
     let cl = lines_of c.args.self.now in
-    let here : Message = c.message_at.result in
-    elim (cases_lt (rank_of t) c.loop-number.number) [
-      | inl g ↦ c.loop-number.invariant t k g
-      | inr g ↦
-          let n = c.message_at.ensures.number in
-          subst (λ (u : Message). Pairs cl u.sender u.receiver u.name) (sym (rank_same t here k c.message_at.ensures.known (omega arith)))
-          (c.if-not-pairs.ensures.0 refl)
-    ]
+    first_of cl c.find.result (first_from_Range _ _ _ c.find.result (UnpairedAt cl) (PairedAt cl) c.find.ensures.ran (λ x q k. search (rules, tests)) (λ x q k. search (rules, tests, paired_at)))

@@ -1,16 +1,20 @@
-use Rattle.std.proofs.Common.{◌≡◌, length, vec_items, arith}
-use Rattle.lines.specs.Of.{acts_of, lines_of}
-use Rattle.lines.proofs.Sheets.{count, size_more, size-all}
+use Rattle.std.proofs.Common.{◌≡◌, ◌^◌, ◌≤◌, length, take, sym, ◌∙◌, arith, rules, length-take-le}
+use Rattle.std.specs.List.{sum_by}
+use Rattle.std.proofs.lemmas.Iterator.{YieldsList-from_slice}
+use Rattle.std.proofs.lemmas.Iterator.Adapters.{fits_from_length, at_most_from_yields_List}
+use Rattle.lines.specs.Of.{acts_of}
+use Rattle.lines.proofs.Sheets.{size_sum}
 use Rattle.lines.proofs.sheet.Sheet.size.Goals as goal
 
-pub loop-party-preserved : goal.loop-party-preserved
-loop-party-preserved c =
+-- at most six lines of at most 32 acts
+pub sum-requires-clause-fits : goal.sum-requires-clause-fits
+sum-requires-clause-fits c =
     let s = c.args.self.now in
-    let k : length (lines_of s) ≡ s.begun = count acts_of (vec_items s.lines) s.begun (omega (arith, s.lines.ok.0)) in
-    (size_more (lines_of s) c.loop-party.party c.loop-party.sum c.line.result.now (omega arith) c.line.ensures.acts c.loop-party.invariant.0, (let h = c.line.ensures.short in omega arith))
+    let few : length (take s.begun s.lines) ≤ 6 = (let e = length-take-le s.begun s.lines (omega (arith, s.six)) in omega arith) in
+    fits_from_length _ _ 6 (2 ^ 64) (at_most_from_yields_List (YieldsList-from_slice (take s.begun s.lines) (search rules)) few) c.map.ensures.closure (omega arith) (λ x r q k. search rules)
 
 pub returns : goal.returns
 returns c =
     let s = c.args.self.now in
-    let k : length (lines_of s) ≡ s.begun = count acts_of (vec_items s.lines) s.begun (omega (arith, s.lines.ok.0)) in
-    size-all (lines_of s) c.loop-party.party c.loop-party.sum (omega arith) c.loop-party.invariant.0
+    let e : c.sum.result ≡ sum_by (λ l. length (acts_of l)) (take s.begun s.lines) = search rules in
+    e ∙ sym (size_sum acts_of s.lines s.begun)
