@@ -20,7 +20,7 @@ use Rattle.acts.proofs.Ordering.{sooner_strict}
 use Rattle.paths.specs.Moves.{After}
 use Rattle.views.specs.declared.view.View.{View}
 use Rattle.views.specs.Spelled.{root}
-use Rattle.views.specs.Children.{act_at, Later, Best, comes, comes_after, is_later, left}
+use Rattle.views.specs.Children.{act_at, Later, Best, comes, comes_after, left}
 use Rattle.views.proofs.Least.{IsLeast, Kept, kept_each, kept_from}
 
 -- the test of the order
@@ -45,6 +45,10 @@ after_true (Some b) a h = comes_true (fields b) (fields a) h
 pub after_from : (last : Option Act) (a : Act) → After last a → comes_after last a ≡ true
 after_from None a h = refl
 after_from (Some b) a h = comes-from (fields b) (fields a) h
+
+-- the view lengthens the view `at` by an act of the party after the last one, as a test
+abbrev pub is_later : (at party : ℕ) → Option Act → View → Bool
+is_later at party last x = (x.lengthens == at) && ((x.act.party == party) && comes_after last x.act)
 
 -- the views but the first, each with its number
 abbrev pub numbered : List View → List (ℕ × View)

@@ -1,18 +1,8 @@
 ghost use Rattle.std.specs.Prelude.{◌≡◌, length};
-ghost use Rattle.views.specs.Children.{Best, is_later};
+ghost use Rattle.views.specs.Children.{Best};
 
 use crate::party_views::PartyViews;
-use crate::view::View;
 use acts::Act;
-
-// Whether the view lengthens the view `at` by an act of the party after the last one.
-fn is_later(view: &View, at: usize, party: u8, last: Option<Act>) -> bool
-    ensures { result ≡ is_later at party last view.now }
-{
-    usize::from(view.lengthens) == at
-        && view.act.party == party
-        && last.is_none_or(|last| last < view.act)
-}
 
 impl PartyViews {
     // Of the views that lengthen the view `at` by an act of the party after the last one, the one
@@ -24,7 +14,11 @@ impl PartyViews {
             .iter()
             .enumerate()
             .skip(1)
-            .filter(|(_, view)| is_later(view, at, party, last))
+            .filter(|(_, view)| {
+                usize::from(view.lengthens) == at
+                    && view.act.party == party
+                    && last.is_none_or(|last| last < view.act)
+            })
             .min_by_key(|(_, view)| view.act)
             .map(|(number, _)| number)
     }

@@ -2,9 +2,8 @@ use Rattle.std.proofs.Common.{ℕ, rules}
 use borrow.Author.Tests.{tests}
 use Rattle.std.proofs.lemmas.Iterator.Consumers.{YieldsList-from_filter, YieldsList-at}
 use Rattle.views.specs.declared.view.View.{View}
-use Rattle.views.specs.Children.{is_later}
 use Rattle.views.proofs.Least.{least_of}
-use Rattle.views.proofs.Choosing.{later_views, best_of}
+use Rattle.views.proofs.Choosing.{is_later, later_views, best_of}
 use Rattle.views.proofs.party_views.PartyViews.next_child.Goals as goal
 
 pub returns : goal.returns
