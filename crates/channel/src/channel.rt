@@ -7,10 +7,10 @@ use fault::ChannelCause;
 // A link between the parties, known by its meaning: which lists of acts it grants from clear and
 // from now on, and how many of each message wait.
 pub trait Channel {
-    // The code of this kind of channel. Generic code calls `kind`, which has a contract.
+    // The code of this kind of channel.
     const CODE: u8;
 
-    ghost mark: { ℕ };
+    ghost CODE: { ℕ };
 
     ghost meaning: { Self → Meaning };
 
@@ -33,7 +33,7 @@ pub trait Channel {
 
     // The code, as a call.
     fn kind(&self) -> u8
-        ensures { result ≡ mark };
+        ensures { result ≡ CODE };
 
     ghost lawful: { (s : Self) → Lawful (meaning s).clearly };
 }

@@ -17,7 +17,7 @@ pub struct Link<S: Store> {
 impl<S: Store> Channel for Link<S> {
     const CODE: u8 = S::CODE;
 
-    ghost mark = { S.CODE };
+    ghost CODE = { S.CODE };
 
     ghost meaning = { λ l. meaning_in S.way S.held l.stores };
 
@@ -52,6 +52,6 @@ impl<S: Store> Channel for Link<S> {
     }
 
     fn kind(&self) -> u8 {
-        S::CODE
+        Self::CODE
     }
 }

@@ -13,7 +13,7 @@ pub struct Mute;
 impl Channel for Mute {
     const CODE: u8 = 99;
 
-    ghost mark = { 99 };
+    ghost CODE = { 99 };
 
     ghost meaning = { λ s. mute_meaning };
 

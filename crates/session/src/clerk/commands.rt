@@ -47,7 +47,8 @@ fn write_answer(
 }
 
 impl<'a, C: Channel> Clerk<'a, C> {
-    // The bytes from the place on.
+    // The bytes from the place on: one line, as the cursor of the chart's reader has, whose faults are
+    // those of a file.
     fn rest(&self) -> &'a [u8]
         ensures value { result.now ≡ drop self.now.place self.now.session.now }
         ensures len { length result.now + self.now.place ≡ length self.now.session.now }
