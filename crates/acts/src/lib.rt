@@ -45,11 +45,11 @@ pub struct Message {
     pub name: u8,
 }
 
-// How many names there are.
-const NAMES: u64 = 32;
+// Names are below this.
+pub const NAMES: u8 = 32;
 
-// The most parties.
-const PARTIES: u64 = 6;
+// There are at most so many parties. An array's length, which can't be computed, is written out.
+pub const PARTIES: u8 = 6;
 
 impl Message {
     // The message with a number, by sender, then receiver, then name; the numbers of all messages
@@ -58,11 +58,12 @@ impl Message {
         ensures known { Known result }
         ensures number { number < 1152 → rank_of result ≡ number }
     {
-        let pair = number / NAMES;
+        let (names, parties) = (u64::from(NAMES), u64::from(PARTIES));
+        let pair = number / names;
         Message {
-            sender: (pair / PARTIES % PARTIES) as u8,
-            receiver: (pair % PARTIES) as u8,
-            name: (number % NAMES) as u8,
+            sender: (pair / parties % parties) as u8,
+            receiver: (pair % parties) as u8,
+            name: (number % names) as u8,
         }
     }
 }
@@ -86,7 +87,8 @@ impl Act {
         }
     }
 
-    // Whether the act sends the message.
+    // Whether the act sends the message. This question and the next are one expression each: with the
+    // letter as a parameter they would be no plainer.
     pub fn sends(self, message: Message) -> bool
         ensures { result ≡ send_of message.sender message.receiver message.name self }
     {
@@ -100,7 +102,7 @@ impl Act {
         self.letter == Letter::Receive && self.message() == message
     }
 
-    // Whether the act comes first in the order of acts.
+    // Whether the act comes first in the order of acts: the order of its type, in the subject's words.
     pub fn precedes(self, other: Act) -> bool
         ensures { (result ≡ true) ↔ Sooner self other }
     {

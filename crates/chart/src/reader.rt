@@ -8,13 +8,10 @@ ghost use Rattle.files.specs.Answers.{BadFile, Refused, file_fault};
 ghost use Rattle.chart.specs.Steps.{file_at, place_at, Due, Taken, letter_at, AtFront, Read};
 
 use crate::cursor::Cursor;
-use acts::{Act, Letter};
+use acts::{Act, Letter, NAMES};
 use fault::{ChartCause, Fault, FileCause};
 use lines::sheet::Sheet;
 use std::ops::ControlFlow;
-
-// Names are below this.
-const NAMES: u8 = 32;
 
 // A file on its way into a sheet, command by command; the last command breaks off.
 #[derive(Drop)]
@@ -23,7 +20,7 @@ pub struct Reader<'s, 'f> {
     cursor: Cursor<'f>,
 }
 
-// `Due` stays a clause of four: a struct for the time of one command would only wrap the reader.
+// `Due` is a clause of four: a struct for the time of one command would only wrap the reader.
 impl Reader<'_, '_> {
     // C: the number of parties.
     fn open(&mut self) -> Result<ControlFlow<()>, Fault>
@@ -60,7 +57,7 @@ impl Reader<'_, '_> {
         if *party != begun {
             return Err(cursor.fault(FileCause::OutOfRange, 1));
         }
-        let _ = self.sheet.begin_line();
+        let _ = self.sheet.begin_line(); // a line is missing, as tested above
         cursor.pass(2);
         Ok(ControlFlow::Continue(()))
     }

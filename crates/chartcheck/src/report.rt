@@ -13,12 +13,12 @@ const WIDTH: usize = 16;
 
 // One party's line, act by act.
 #[derive(Drop)]
-struct PartyLine<'a> {
+struct LineOfActs<'a> {
     party: u8,
     acts: &'a [Act],
 }
 
-impl<'a> fmt::Display for PartyLine<'a> {
+impl<'a> fmt::Display for LineOfActs<'a> {
     fn fmt<W: fmt::Write>(&self, f: &mut fmt::Formatter<W>) -> fmt::Result {
         let party = self.party;
         let Some((first, others)) = self.acts.split_first() else {
@@ -79,9 +79,10 @@ pub fn accepted(heap: Global, chart: &Chart) -> Result<String, AllocError> {
     let parties = chart.parties();
     let size = chart.size();
     let mut text = format!(in heap; "a chart of {parties} parties and {size} acts\n")?;
+    // By number: a chart lends its lines one by one, and each is printed with its party's number.
     for party in 0..parties {
         let acts = chart.line(party);
-        let line = PartyLine { party, acts };
+        let line = LineOfActs { party, acts };
         write!(text, "{line}")?;
     }
     text.push_str(file_words(heap, chart)?.as_str())?;

@@ -5,6 +5,7 @@ use channel::line::Line;
 use input::front;
 use session::session::{MOST, session_text};
 
+// chartbag is the same over its channel: one function for both would print, of which no contract speaks.
 fn main(rt: HostRuntime) -> anyhow::Result<()> {
     let heap = rt.alloc();
     let session = front(heap, rt.stdin(), MOST)?;

@@ -20,7 +20,7 @@ pub fn run<C: Channel>(channel: &mut C, chart: &Chart, order: &mut Order) -> usi
     while let Some((party, act)) = progress.first(|act| channel.may(act)) {
         let _ = channel.carry(act); // may has said that it is granted
         progress.pass(party);
-        order.push(act);
+        order.push(act); // which has room for all acts of a chart
     }
     channel.clear(); // of what a run that is stuck leaves
     order.acts().len()

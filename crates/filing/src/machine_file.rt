@@ -19,7 +19,8 @@ fn party_length(views: &PartyViews) -> usize
     2 + 7 * (views.len() - 1) + 3 * lasts
 }
 
-// How many bytes the machine file of the first parties has.
+// How many bytes the machine file of the first parties has. The tables of six parties come with how
+// many have lines, since a caller's tables hold all six.
 pub fn machines_length(parties: &[PartyViews], count: u8) -> usize
     requires { count ≤ length parties.now }
     ensures tables { (code : ℕ) → result ≡ length (tables_file code count (tables_in parties.now)) }

@@ -40,7 +40,7 @@ impl<const MOST: usize> ActList<MOST> {
         self.acts.clear();
     }
 
-    // One act more, where there is room for it.
+    // One act more, where there is room for it; a full list stays as it is.
     pub fn push(&mut self, act: Act)
         ensures { self.new.acts.items ≡ added MOST self.old.acts.items act }
     {

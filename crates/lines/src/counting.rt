@@ -5,7 +5,8 @@ ghost use Rattle.acts.specs.Acts.{sends, receives};
 
 use acts::{Act, Message};
 
-// How often the acts send the message.
+// How often the acts send the message. One chain here and one below: with the test as a parameter they
+// would be no plainer.
 pub fn sends_of(acts: &[Act], message: Message) -> usize
     ensures { result ≡ sends message.sender message.receiver message.name acts.now }
 {

@@ -9,7 +9,7 @@ use acts::Act;
 #[derive(Drop)]
 pub struct Progress<'a> {
     sheet: &'a Sheet,
-    done: [usize; 6],
+    done: [usize; 6], // beside the lines, which are lent
     ghost within: { Within (lines_of sheet.now) done },
     ghost six: { length done ≡ 6 },
 }
@@ -44,7 +44,8 @@ impl<'a> Progress<'a> {
         self.sheet.line(party).get(*done).copied()
     }
 
-    // The first party whose next act passes the test, with that act.
+    // The first party whose next act passes the test, with that act. A loop, since a chain's closure
+    // would need the test's clauses again.
     pub fn first<F: Fn(Act) -> bool>(&self, test: F) -> Option<(u8, Act)>
         requires { F.IsAlwaysCallable test }
         ensures { Chosen (F.post test) (lines_of self.now.sheet.now) self.now.done result }

@@ -13,10 +13,10 @@ pub use filling::OutOfRange;
 // that they make a chart.
 #[derive(Drop)]
 pub struct Sheet {
-    parties: u8,
+    parties: u8, // none before a file has opened the sheet: a count, and no code
     begun: u8, // no Vec of the lines begun: each line's memory stays reserved
     lines: [PartyLine; 6],
     ghost few: { parties ≤ 6 },
     ghost within: { begun ≤ parties },
-    ghost six: { length lines ≡ 6 },
+    ghost six: { length lines ≡ 6 }, // clauses see an array as a list
 }

@@ -6,7 +6,7 @@ use book::book::Book;
 use channel::channel::Channel;
 use std::alloc::{AllocError, Global};
 
-// A session has at most so many bytes; further ones are not looked at.
+// So many bytes of a session a program looks at.
 pub const MOST: usize = 32768;
 
 // The text that a session over the channel gives.
@@ -24,6 +24,7 @@ pub fn session_text<C: Channel + Drop>(
         book: Book::new(heap, channel)?,
         text: String::new(heap),
     };
+    // A `while`, since commands differ in length.
     while clerk.place < session.len() {
         clerk.command()?;
     }

@@ -19,7 +19,7 @@ use std::array;
 // The highest id.
 const LAST_ID: u8 = 7;
 
-// A refusal of the book.
+// A refusal of the book, as the rows of the right answer say it.
 fn refused(cause: BookCause, place: usize) -> Fault
     ensures { Err result ≡ refusal cause place }
 {

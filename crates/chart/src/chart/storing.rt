@@ -38,7 +38,7 @@ impl Chart {
         ensures { Puts output.old (file_of (lines_in self.now)) output.new }
     {
         output.put(&[b'C', self.parties()]);
-        // By number, since a line's party is a byte of the file.
+        // By number: a chart lends its lines one by one, and each is written with its party's number.
         for party in 0..self.parties() {
             write_line(output, party, self.line(party));
         }

@@ -46,9 +46,10 @@ fn write_answer(
     }
 }
 
+// That a command is due is a clause of three: a struct for so long would only wrap the clerk.
 impl<'a, C: Channel> Clerk<'a, C> {
-    // The bytes from the place on: one line, as the cursor of the chart's reader has, whose faults are
-    // those of a file.
+    // The bytes from the place on. The cursor of the chart's reader has the same line, and speaks of
+    // faults of files beside it.
     fn rest(&self) -> &'a [u8]
         ensures value { result.now ≡ drop self.now.place self.now.session.now }
         ensures len { length result.now + self.now.place ≡ length self.now.session.now }
