@@ -60,7 +60,7 @@ impl<'a> fmt::Display for HexLine<'a> {
 fn file_words(heap: Global, chart: &Chart) -> Result<String, AllocError> {
     let mut output = vec![in heap; 0u8; chart.file_length()]?;
     let Ok(length) = chart.write(output.as_mut_slice()) else {
-        return Ok(String::new(heap));
+        return Ok(String::new(heap)); // an output of the due length is not refused
     };
     let mut text = format!(in heap; "its file of {length} bytes\n")?;
     for (row, bytes) in output.as_slice().chunks(WIDTH).enumerate() {

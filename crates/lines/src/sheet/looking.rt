@@ -21,7 +21,8 @@ impl Sheet {
         self.begun
     }
 
-    // The acts of a party's line; none where it has no line.
+    // The acts of a party's line; none where it has no line. That they are few is a clause here and
+    // where a chart lends them: a slice, which every reader of a line takes, can't keep it.
     pub fn line(&self, party: u8) -> &[Act]
         ensures acts { result.now ≡ line (lines_of self.now) party }
         ensures short { length result.now ≤ 32 }
