@@ -7,7 +7,7 @@ use fault::ChannelCause;
 // A link between the parties, known by its meaning: which lists of acts it grants from clear and
 // from now on, and how many of each message wait.
 pub trait Channel {
-    // The code of this kind of channel.
+    // The code of this kind of channel: a number, since files hold it as one byte.
     const CODE: u8;
 
     ghost CODE: { ℕ };

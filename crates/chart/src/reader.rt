@@ -110,7 +110,7 @@ impl Reader<'_, '_> {
         Ok(ControlFlow::Break(()))
     }
 
-    // One command, selected by its letter.
+    // One command, selected by its letter: which is due is what stands in the file.
     fn command(&mut self) -> Result<ControlFlow<()>, Fault>
         ensures { Taken (letter_at self.old) self.old result self.new }
     {

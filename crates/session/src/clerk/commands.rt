@@ -100,7 +100,7 @@ impl<'a, C: Channel> Clerk<'a, C> {
         Ok(())
     }
 
-    // One command.
+    // One command: which is due is the letter that stands in the session.
     pub fn command(&mut self) -> Result<(), AllocError>
         requires { self.old.place < length self.old.session.now }
         ensures { IfOk result (λ _. Steps (course self.old) (course self.new)) }
