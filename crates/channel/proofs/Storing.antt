@@ -68,10 +68,10 @@ module _ (W : Way) {X : Type 0} (held : X → W.Waiting) where
         waits = λ s r m. L.count_none m i;
       }
 
-  empty_still : WayLawful W → (xs : List X) → ((k : ℕ) → k < 36 → Bare W (at W held xs k)) → Still (meaning_in W held xs)
+  pub empty_still : WayLawful W → (xs : List X) → ((k : ℕ) → k < 36 → Bare W (at W held xs k)) → Still (meaning_in W held xs)
   empty_still L xs z s r m = by_place xs s r (λ x. W.count x m ≡ 0) (λ hs hr. z (slot s r) (omega arith) m) (λ t. L.count_none m)
 
-  still_empty : (xs : List X) → Still (meaning_in W held xs) → (k : ℕ) → k < 36 → Bare W (at W held xs k)
+  pub still_empty : (xs : List X) → Still (meaning_in W held xs) → (k : ℕ) → k < 36 → Bare W (at W held xs k)
   still_empty xs z k h m =
       let s : ℕ = k / 6 in
       let r : ℕ = k % 6 in

@@ -1,15 +1,18 @@
-ghost use Rattle.std.specs.Prelude.{◌≡◌, replicate, sum};
-ghost use Rattle.channel.specs.Pairs.{in_any_order};
+ghost use Rattle.std.specs.Prelude.{◌≡◌, replicate};
+ghost use Rattle.channel.specs.Pairs.{total, in_any_order};
 ghost use Rattle.channel.specs.Places.{counted};
 ghost use Rattle.channel.specs.WaysLemmas.{in_any_order_way};
 
 use crate::store::Store;
 use acts::{Act, Letter};
 
-// Names that are received in any order: how many of each wait.
+// Names that are received in any order: how many of each wait, and how many in all, which is kept so
+// that a send and the question whether nothing waits need not count.
 #[derive(Clone, Copy)]
 pub struct Pile {
     counts: [u8; 32],
+    size: u8,
+    ghost tie: { size ≡ total 32 (counted counts) },
 }
 
 impl Pile {
@@ -17,14 +20,10 @@ impl Pile {
     pub(crate) fn new() -> Pile
         ensures { result.counts ≡ replicate 32 0 }
     {
-        Pile { counts: [0; 32] }
-    }
-
-    // How many names wait.
-    fn size(&self) -> u32
-        ensures { result ≡ sum self.now.counts }
-    {
-        self.counts.iter().map(|count| u32::from(*count)).sum()
+        Pile {
+            counts: [0; 32],
+            size: 0,
+        }
     }
 }
 
@@ -44,12 +43,12 @@ impl Store for Pile {
     }
 
     fn is_empty(&self) -> bool {
-        self.counts.iter().all(|count| *count == 0)
+        self.size == 0
     }
 
     fn allows(&self, act: Act) -> bool {
         match act.letter {
-            Letter::Send => self.size() < 32,
+            Letter::Send => self.size < 32,
             Letter::Receive => self.counts[usize::from(act.name)] > 0,
         }
     }
@@ -57,8 +56,14 @@ impl Store for Pile {
     fn change(&mut self, act: Act) {
         let count = &mut self.counts[usize::from(act.name)];
         match act.letter {
-            Letter::Send => *count += 1,
-            Letter::Receive => *count -= 1,
+            Letter::Send => {
+                *count += 1;
+                self.size += 1;
+            }
+            Letter::Receive => {
+                *count -= 1;
+                self.size -= 1;
+            }
         }
     }
 }
