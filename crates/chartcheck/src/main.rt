@@ -27,10 +27,12 @@ fn links(rt: &HostRuntime, chart: &Chart) -> anyhow::Result<()> {
 // Ends with status 0 for a chart, and with 1 for a file that is refused.
 fn main(rt: HostRuntime) -> anyhow::Result<ExitCode> {
     let heap = rt.alloc();
-    let file = front(heap, rt.stdin(), LOOKED_AT)?;
+    let mut buffer = [0u8; LOOKED_AT];
+    let length = front(rt.stdin(), &mut buffer)?;
+    let file = &buffer[..length];
     let mut chart = Chart::new(heap)?;
-    if let Err(fault) = chart.read(file.as_slice()) {
-        rt.print(report::refused(heap, file.as_slice(), fault)?)?;
+    if let Err(fault) = chart.read(file) {
+        rt.print(report::refused(heap, file, fault)?)?;
         return Ok(ExitCode::FAILURE);
     }
     rt.print(report::accepted(heap, &chart)?)?;

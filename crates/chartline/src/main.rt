@@ -8,7 +8,8 @@ use session::session::{MOST, session_text};
 // chartbag is the same over its channel: one function for both would print, of which no contract speaks.
 fn main(rt: HostRuntime) -> anyhow::Result<()> {
     let heap = rt.alloc();
-    let session = front(heap, rt.stdin(), MOST)?;
-    rt.print(session_text(heap, Line::new(heap)?, session.as_slice())?)?;
+    let mut buffer = vec![in heap; 0u8; MOST]?;
+    let length = front(rt.stdin(), &mut buffer)?;
+    rt.print(session_text(heap, Line::new(heap)?, &buffer[..length])?)?;
     Ok(())
 }
