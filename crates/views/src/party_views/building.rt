@@ -103,7 +103,8 @@ impl PartyViews {
     }
 
     // The party's views in the charts, which stand under their ids.
-    pub fn build(&mut self, charts: &[Option<Chart>; 8], party: u8)
+    pub fn build(&mut self, charts: &[Option<Chart>], party: u8)
+        requires { length charts.now ≡ 8 }
         ensures { Shows (table_of charts.now) party self.new.views.items }
     {
         self.restart();

@@ -27,10 +27,11 @@ loop-id-preserved c =
     let id = c.loop-id.id in
     let i = c.loop-id.invariant in
     let was : List View = vec_items c.loop-id.self.views in
-    let eight : length charts ≡ 8 = c.type_inv.charts in
-    let lt : id < length charts = let h = c.loop-id-test.true in omega arith in
+    let eight : length charts ≡ 8 = c.requires in
+    let lt : id < length charts = let h = c.loop-id-test.true in let e = c.loop-id.auto.id-end in omega arith in
+    let low : id < 8 = omega arith in
     let x = c.index-charts-id.result in
-    let at : get_or charts id None ≡ get_or charts id x = sym (get_or_read charts id x lt c.index-charts-id.is None) ∙ c.index-charts-id.is in
+    let at : get_or charts id None ≡ x = sym (get_or_read charts id x lt c.index-charts-id.is None) in
     let Next : PartyViews → Type 0 = λ s. (vec_len s.views ≤ 1 + 32 * (id + 1)) × ShowsBelow f p (id + 1) (vec_items s.views) in
     elim c.match-chart.branch [
       | in-Some w ↦
@@ -44,7 +45,7 @@ loop-id-preserved c =
           let r : Next w.enter_line.new.self = (
             omega (arith, i.0),
             subst (λ (k : ℕ). ShowsBelow f p k (vec_items w.enter_line.new.self.views)) (sym (add-one id))
-                (shows_chart f p id was i.1 (lines_in w.in-Some.chart) e _ (one_shl id 8 c.loop-id-test.true) (vec_items w.enter_line.new.self.views) E),
+                (shows_chart f p id was i.1 (lines_in w.in-Some.chart) e _ (one_shl id 8 low) (vec_items w.enter_line.new.self.views) E),
           ) in
           subst Next (sym w.self-is) r
       | in_default w ↦
@@ -58,6 +59,6 @@ loop-id-preserved c =
 pub returns : goal.returns
 returns c =
     let f = table_of c.args.charts.now in
-    let e : c.loop-id.id ≡ 8 = let a = c.loop-id-test.false in let b = c.loop-id.auto.id-end in omega arith in
+    let e : c.loop-id.id ≡ 8 = let a = c.loop-id-test.false in let b = c.loop-id.auto.id-end in let r = c.requires in omega arith in
     shows_all f c.args.party (vec_items c.loop-id.self.views)
     (subst (λ (k : ℕ). ShowsBelow f c.args.party k (vec_items c.loop-id.self.views)) e c.loop-id.invariant.1)
