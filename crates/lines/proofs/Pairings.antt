@@ -5,7 +5,7 @@ use Rattle.acts.specs.Acts.{Known, rank_of, Lines}
 use Rattle.lines.specs.Charts.{Pairs, FirstUnpaired, KnownPaired}
 
 -- a message's number tells it from all others
-rank_same : (t u : Message) → Known t → Known u → rank_of t ≡ rank_of u → t ≡ u
+pub rank_same : (t u : Message) → Known t → Known u → rank_of t ≡ rank_of u → t ≡ u
 rank_same t u k j e =
     let s : t.sender ≡ u.sender = omega arith in
     let r : t.receiver ≡ u.receiver = omega arith in

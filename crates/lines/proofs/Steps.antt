@@ -20,14 +20,14 @@ abbrev pub Halted : (Act → Bool) → Lines → List ℕ → ℕ → Type 0
 Halted t c done p = (a : Act) (rest : List Act) → so_far c done p ++ (a ∷ rest) ≡ line c p → t a ≡ false
 
 -- the next act of a line stands between those done and the rest
-next_on : (l : List Act) (d : ℕ) (a : Act) → d < length l → get_or l d a ≡ a → take d l ++ (a ∷ drop (d + 1) l) ≡ l
+pub next_on : (l : List Act) (d : ℕ) (a : Act) → d < length l → get_or l d a ≡ a → take d l ++ (a ∷ drop (d + 1) l) ≡ l
 next_on l d a h is =
     ap (λ (x : Act). take d l ++ (x ∷ drop (d + 1) l)) (sym is)
     ∙ ap (λ (x : List Act). take d l ++ x) (sym (drop_more l d a h))
     ∙ take-append-drop d l
 
 -- and what stands there is the next one
-next_is : (c : Lines) (done : List ℕ) (p : ℕ) (a : Act) (rest : List Act) → so_far c done p ++ (a ∷ rest) ≡ line c p → next_act c done p ≡ Some a
+pub next_is : (c : Lines) (done : List ℕ) (p : ℕ) (a : Act) (rest : List Act) → so_far c done p ++ (a ∷ rest) ≡ line c p → next_act c done p ≡ Some a
 next_is c done p a rest e =
     let k : ℕ = get_or done p 0 in
     let l : List Act = line c p in

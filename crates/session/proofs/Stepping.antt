@@ -46,13 +46,13 @@ module _ (G : List Act → Bool) (h : History) (was is : Course) (within : was.p
     letter_a = eq-eqb (get_or rest 0 0) 65 A
 
     -- A without its operands, or without all bytes of its file
-    cut_a : length rest < 4 → (k : ℕ) → left (suc k) G h was.session was.place ≡ cut_at (length was.session)
+    pub cut_a : length rest < 4 → (k : ℕ) → left (suc k) G h was.session was.place ≡ cut_at (length was.session)
     cut_a c k =
         cond-false (eqb (length rest) 0) _ _ some
         ∙ cond-true (eqb (get_or rest 0 0) 65) _ _ letter_a
         ∙ cond-true (ltb (length rest) 4) _ _ (lt-ltb (length rest) 4 c)
 
-    cut_file : 4 ≤ length rest → length rest < 4 + file_length rest → (k : ℕ)
+    pub cut_file : 4 ≤ length rest → length rest < 4 + file_length rest → (k : ℕ)
         → left (suc k) G h was.session was.place ≡ cut_at (length was.session)
     cut_file l c k =
         cond-false (eqb (length rest) 0) _ _ some
@@ -60,7 +60,7 @@ module _ (G : List Act → Bool) (h : History) (was is : Course) (within : was.p
         ∙ cond-false (ltb (length rest) 4) _ _ (le-ltb (length rest) 4 l)
         ∙ cond-true (ltb (length rest) (4 + file_length rest)) _ _ (lt-ltb (length rest) (4 + file_length rest) c)
 
-    added_on : (file : List ℕ) (r : Result ℕ Fault) → is.session ≡ was.session → 4 + file_length rest ≤ length rest
+    pub added_on : (file : List ℕ) (r : Result ℕ Fault) → is.session ≡ was.session → 4 + file_length rest ≤ length rest
         → file ≡ take (file_length rest) (drop 4 rest) → is.place ≡ was.place + (4 + file_length rest) → Added G h (get_or rest 1 0) file r is.book
         → is.text ≡ was.text ++ answer_text 65 r → Stepped G h was is
     added_on file r same l f e D x =
@@ -116,7 +116,7 @@ module _ (G : List Act → Bool) (h : History) (was is : Course) (within : was.p
     letter_w = (ne_eqb (get_or rest 0 0) 65 (λ e. absurd (omega arith)), eq-eqb (get_or rest 0 0) 87 B)
 
     -- W without its operand
-    cut_w : length rest < 2 → (k : ℕ) → left (suc k) G h was.session was.place ≡ cut_at (length was.session)
+    pub cut_w : length rest < 2 → (k : ℕ) → left (suc k) G h was.session was.place ≡ cut_at (length was.session)
     cut_w c k =
         cond-false (eqb (length rest) 0) _ _ some
         ∙ cond-false (eqb (get_or rest 0 0) 65) _ _ letter_w.0
