@@ -1,6 +1,8 @@
 -- A chart's lines run over a channel: one act, no act, the end.
-use Rattle.std.proofs.Common.{◌≡◌, ℕ, ◌+◌, ◌<◌, ◌≤◌, Bool, true, false, cond, ◌&&◌, eqb, List, [], ◌∷◌, ◌++◌, length, Some, None, sym, refl, ap, ◌∙◌, subst, append_assoc, append-nil, arith}
-use Rattle.std.proofs.lemmas.Bool.{and_parts, eqb-true, lt-ltb}
+use Rattle.std.proofs.Common.{◌≡◌, ℕ, ◌+◌, ◌<◌, ◌≤◌, Bool, true, false, cond, ◌&&◌, eqb, List, [], ◌∷◌, ◌++◌, length, slice_index, Some, None, sym, refl, ap, ◌∙◌, subst, inl, inr, append_assoc, append-nil, arith}
+use Rattle.std.proofs.lemmas.Bool.{and_parts, cases_lt, eqb-true, lt-ltb}
+use Rattle.std.proofs.lemmas.List.{get_or_past}
+use Rattle.std.proofs.lemmas.Option.{slice_get_within}
 use Rattle.acts.specs.declared.Act.{Act}
 use Rattle.acts.specs.declared.Letter.{Letter}
 use Rattle.acts.specs.declared.Letter.TheVariants.{Send, Receive}
@@ -11,7 +13,10 @@ use Rattle.acts.proofs.Counts.{tally-part, sender, receiver}
 use Rattle.acts.proofs.Running.{full_parts, full_size}
 use Rattle.acts.proofs.Stuck.{stuck_longest}
 use Rattle.lines.specs.Charts.{Paired}
+use Rattle.lines.specs.Of.{acts_of, lines_of}
 use Rattle.lines.specs.Progress.{Within, next_act, passed}
+use Rattle.lines.specs.declared.sheet.Sheet.{Sheet}
+use Rattle.lines.proofs.Sheets.{count}
 use Rattle.lines.proofs.Steps.{passed_is, within_more, parts_more, less_left, halts, parts_along}
 use Rattle.lines.proofs.Tallies.{tally-push}
 use Rattle.channel.specs.Meaning.{Meaning, Lawful, cleared, carried}
@@ -71,6 +76,17 @@ reached_on G m w a L h R =
           let e₄ = receivable G L w a g s r k (m.waits s r k) e₃ in
           omega arith;
     }
+
+-- no party past the sixth has a next act
+pub among_six : (s : Sheet) (done : List ℕ) (p : ℕ) (a : Act) → next_act (lines_of s) done p ≡ Some a → p < 6
+among_six s done p a is =
+    let c : Lines = lines_of s in
+    let n = count acts_of s.lines s.begun (omega (arith, s.six)) in
+    let h = slice_get_within (line c p) (slice_index done p) a is in
+    elim (cases_lt p (length c)) [
+      | inl k ↦ omega (arith, s.within, s.few)
+      | inr k ↦ absurd (let e = ap length (get_or_past c p [] k) in omega arith)
+    ]
 
 -- the party p does its next act a
 pub moved : (c : Lines) (m n : Meaning) (done : List ℕ) (p : ℕ) (a : Act) → p < length done → next_act c done p ≡ Some a → length (line c p) ≤ 32
