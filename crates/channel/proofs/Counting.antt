@@ -1,5 +1,5 @@
 -- How many of each name a list counts, and how many in all.
-use Rattle.std.proofs.Common.{◌≡◌, ℕ, zero, suc, pred, ◌+◌, ◌-◌, ◌<◌, ◌≤◌, true, cond, eqb, List, [], ◌∷◌, length, take, set, replicate, sum, EachIndex, get_or, sym, refl, ap, ◌∙◌, inl, inr, add-one, sub-one, arith}
+use Rattle.std.proofs.Common.{◌≡◌, ℕ, zero, suc, pred, ◌+◌, ◌-◌, ◌<◌, ◌≤◌, true, cond, eqb, List, [], ◌∷◌, length, take, set, replicate, sum, sym, refl, ap, ◌∙◌, inl, inr, add-one, sub-one, arith}
 use mathlib.Core.Path.{fun_ext}
 use Rattle.std.proofs.lemmas.List.{get_or_past, get_or-set_same, get_or-set_other, length-set, take_all}
 use Rattle.std.proofs.lemmas.List.Sums.{sum_by-cons, sum_by_more, sum_by-set, get_or-le-sum_by}
@@ -28,10 +28,6 @@ counted_none n = fun_ext (zeros n)
     zeros zero m = refl
     zeros (suc n) zero = refl
     zeros (suc n) (suc m) = zeros n m
-
--- none at each index is none of any name
-pub each_none : (xs : List ℕ) → EachIndex xs (λ k. get_or xs k 0 ≡ 0) → (m : ℕ) → counted xs m ≡ 0
-each_none xs z m = elim (cases_lt m (length xs)) [ inl h ↦ z m h | inr h ↦ get_or_past xs m 0 h ]
 
 -- none of any name, and none in all
 none_sum : (xs : List ℕ) → ((m : ℕ) → counted xs m ≡ 0) → sum xs ≡ 0

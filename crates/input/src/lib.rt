@@ -7,7 +7,8 @@ use std::io;
 use std::io::Read;
 
 // Fills the buffer from the input, until it is full or the input ends, and answers how many bytes
-// came. An input may come in pieces.
+// came. An input may come in pieces: a loop over its reads, since std reads to an end into a Vec alone,
+// which takes memory.
 pub fn front<R: Read + Drop>(mut input: R, buffer: &mut [u8]) -> io::Result<usize>
     ensures bound { IfOk result (λ n. n ≤ length buffer.old) }
     ensures bytes { IfOk result (λ n. IfSome (R.remaining input)
